@@ -1,2 +1,4 @@
 pub mod Order
+pub mod Smaller
 pub mod Sums
+pub mod Keys
