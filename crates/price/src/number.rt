@@ -40,3 +40,14 @@ impl Number {
         Number::new(self.value + other.value)
     }
 }
+
+// A 32-bit number is always below the ceiling.
+pub impl From<u32> for Number as NumberFromU32 {
+    ghost converts = { λ n r. r .value ≡ n };
+
+    fn from(value: u32) -> Number {
+        Number {
+            value: u64::from(value),
+        }
+    }
+}

@@ -41,10 +41,10 @@ key-chain a b c x y =
     let t = in-turn-failed (less (c .whole) (b .whole)) (less (b .whole) (c .whole)) (less (c .own) (b .own)) y in
     in-turn-fails (less (c .whole) (a .whole)) (less (a .whole) (c .whole)) (less (c .own) (a .own)) (less-chain (a .whole) (b .whole) (c .whole) (s .0) (t .0))
     (⊎-elim (λ e. inl e) (λ e. ⊎-elim
-      (λ ab. absurd (both-ways (less (a .whole) (b .whole)) (less-chain (b .whole) (c .whole) (a .whole) (t .0) e) ab))
-      (λ pq. ⊎-elim
-      (λ bc. absurd (both-ways (less (b .whole) (c .whole)) (less-chain (c .whole) (a .whole) (b .whole) e (s .0)) bc))
-      (λ qr. inr (less-chain (a .own) (b .own) (c .own) pq qr)) (t .1)) (s .1)) (cases-bool (less (a .whole) (c .whole))))
+    (λ ab. absurd (both-ways (less (a .whole) (b .whole)) (less-chain (b .whole) (c .whole) (a .whole) (t .0) e) ab))
+    (λ pq. ⊎-elim
+    (λ bc. absurd (both-ways (less (b .whole) (c .whole)) (less-chain (c .whole) (a .whole) (b .whole) e (s .0)) bc))
+    (λ qr. inr (less-chain (a .own) (b .own) (c .own) pq qr)) (t .1)) (s .1)) (cases-bool (less (a .whole) (c .whole))))
 
 pub key-one-way : (a b : Key) → key-less a b ≡ true → key-less b a ≡ false
 key-one-way a b h = ⊎-elim
@@ -58,10 +58,10 @@ before-chain a b c p q r x y =
     let t = in-turn-failed (key-less c b) (key-less b c) (ltb r q) y in
     in-turn-fails (key-less c a) (key-less a c) (ltb r p) (key-chain a b c (s .0) (t .0))
     (⊎-elim (λ e. inl e) (λ e. ⊎-elim
-      (λ ab. absurd (both-ways (key-less a b) (key-chain b c a (t .0) e) ab))
-      (λ pq. ⊎-elim
-      (λ bc. absurd (both-ways (key-less b c) (key-chain c a b e (s .0)) bc))
-      (λ qr. inr (le-ltb r p (omega (arith, ltb-false q p pq, ltb-false r q qr)))) (t .1)) (s .1)) (cases-bool (key-less a c)))
+    (λ ab. absurd (both-ways (key-less a b) (key-chain b c a (t .0) e) ab))
+    (λ pq. ⊎-elim
+    (λ bc. absurd (both-ways (key-less b c) (key-chain c a b e (s .0)) bc))
+    (λ qr. inr (le-ltb r p (omega (arith, ltb-false q p pq, ltb-false r q qr)))) (t .1)) (s .1)) (cases-bool (key-less a c)))
 
 pub before-one-way : (a b : Key) (p q : ℕ) → before a p b q ≡ true → before b q a p ≡ false
 before-one-way a b p q h = ⊎-elim
@@ -74,7 +74,7 @@ before-total a b p q x y =
     let s = in-turn-failed (key-less a b) (key-less b a) (ltb p q) x in
     let t = in-turn-failed (key-less b a) (key-less a b) (ltb q p) y in
     ⊎-elim (λ e. absurd (both-ways (key-less b a) (t .0) e))
-      (λ e. ⊎-elim (λ d. absurd (both-ways (key-less a b) (s .0) d)) (λ d. omega (arith, ltb-false p q e, ltb-false q p d)) (t .1)) (s .1)
+    (λ e. ⊎-elim (λ d. absurd (both-ways (key-less a b) (s .0) d)) (λ d. omega (arith, ltb-false p q e, ltb-false q p d)) (t .1)) (s .1)
 
 -- what does not come before has no smaller key
 pub before-key : (a b : Key) (p q : ℕ) → before a p b q ≡ false → key-less a b ≡ false

@@ -16,15 +16,15 @@ pub smaller-swap : (a b : Price) → smaller a b ≡ smaller b a
 smaller-swap a b = ⊎-elim
     (λ t. smaller-left a b t ∙ sym (smaller-right b a (less-one-way a b t)))
     (λ f. ⊎-elim
-      (λ t. smaller-right a b f ∙ sym (smaller-left b a t))
-      (λ k. smaller-right a b f ∙ less-total b a k f ∙ sym (smaller-right b a k)) (cases-bool (less b a))) (cases-bool (less a b))
+    (λ t. smaller-right a b f ∙ sym (smaller-left b a t))
+    (λ k. smaller-right a b f ∙ less-total b a k f ∙ sym (smaller-right b a k)) (cases-bool (less b a))) (cases-bool (less a b))
 
 pub smaller-assoc : (a b c : Price) → smaller (smaller a b) c ≡ smaller a (smaller b c)
 smaller-assoc a b c = ⊎-elim
     (λ ab. ap (λ x. smaller x c) (smaller-left a b ab) ∙ ⊎-elim
-      (λ bc. let ac : less a c ≡ true = ⊎-elim (λ t. t) (λ f. absurd (both-ways (less a b) (less-chain b c a (less-one-way b c bc) f) ab)) (cases-bool (less a c)) in
-        smaller-left a c ac ∙ sym (ap (smaller a) (smaller-left b c bc) ∙ smaller-left a b ab))
-      (λ bc. sym (ap (smaller a) (smaller-right b c bc))) (cases-bool (less b c)))
+    (λ bc. let ac : less a c ≡ true = ⊎-elim (λ t. t) (λ f. absurd (both-ways (less a b) (less-chain b c a (less-one-way b c bc) f) ab)) (cases-bool (less a c)) in
+    smaller-left a c ac ∙ sym (ap (smaller a) (smaller-left b c bc) ∙ smaller-left a b ab))
+    (λ bc. sym (ap (smaller a) (smaller-right b c bc))) (cases-bool (less b c)))
     (λ ab. ap (λ x. smaller x c) (smaller-right a b ab) ∙ ⊎-elim
-      (λ bc. smaller-left b c bc ∙ sym (ap (smaller a) (smaller-left b c bc) ∙ smaller-right a b ab))
-      (λ bc. smaller-right b c bc ∙ sym (ap (smaller a) (smaller-right b c bc) ∙ smaller-right a c (less-chain c b a bc ab))) (cases-bool (less b c))) (cases-bool (less a b))
+    (λ bc. smaller-left b c bc ∙ sym (ap (smaller a) (smaller-left b c bc) ∙ smaller-right a b ab))
+    (λ bc. smaller-right b c bc ∙ sym (ap (smaller a) (smaller-right b c bc) ∙ smaller-right a c (less-chain c b a bc ab))) (cases-bool (less b c))) (cases-bool (less a b))

@@ -1,0 +1,114 @@
+-- A file that is not refused draws a lawful chart.
+use mathlib.Core.Path.{_≡_, refl, sym, ap, subst, _∙_}
+use mathlib.Core.Bool.{Bool, true, false, cond, _&&_}
+use mathlib.Core.List.{List, [], _∷_, _++_, map}
+use Prim.Native.Nat.{ℕ, _+_, _*_, _^_, _<_, _≤_}
+use native.Mathlib.Omega.{arith}
+use lib.Dec.{eqb, leb, ltb}
+use lib.ListN.{getD, length, take, drop}
+use Rattle.std.proofs.shelf.Counted.{getD-map-counting, length-map-counting}
+use Rattle.std.proofs.shelf.Lists.{take-at}
+use Rattle.std.proofs.shelf.Tests.{and-parts, leb-true, ltb-true}
+use Rattle.std.specs.Iters.{counting}
+use Rattle.std.specs.declared.option.Option.{Option}
+use Rattle.std.specs.declared.option.Option.the-variants.{Some, None}
+use Rattle.chart.specs.Lawful.{Lawful}
+use Rattle.chart.specs.Refusals.{Refusal}
+use Rattle.chart_file.specs.Checks.{at-link, estimate-holds, estimate-in, file-refusal, goal-is-zero, in-limits, lowest-failing, or-else, records-refusal, refuse, require, room-refusal, trailer-refusal}
+use Rattle.chart_file.specs.File.{drawn, four-bytes, is-chart, link-record, link-records, place-record, place-records, trailer-of}
+use Rattle.chart_file.specs.Records.{estimate-of, keeps-estimate, keeps-rules, records-mean}
+use Rattle.chart_file.specs.declared.records.LinkRecord.{LinkRecord}
+use Rattle.chart_file.specs.declared.records.PlaceRecord.{PlaceRecord}
+use Rattle.chart_file.specs.declared.trailer.Trailer.{Trailer}
+use Rattle.chart_file.proofs.Lawful.{Rules, link-in, no-link, no-place, place-in, records-lawful}
+use Rattle.chart_file.proofs.Lowest.{holds-at}
+use Rattle.chart_file.proofs.Ruled.{ruled}
+
+-- no refusal means that no part refuses
+both-none : (a b : Option Refusal) → or-else a b ≡ None → (a ≡ None) × (b ≡ None)
+both-none None b e = (refl, e)
+both-none (Some r) b e = let z : _≡_ {A = ℕ} 0 1 = cc in absurd (omega arith)
+
+pub required : (b : Bool) (r : Refusal) → require b r ≡ None → b ≡ true
+required true r e = refl
+required false r e = let z : _≡_ {A = ℕ} 0 1 = cc in absurd (omega arith)
+
+unlinked : (by : ℕ) (o : Option ℕ) → at-link by o ≡ None → o ≡ None
+unlinked by None e = refl
+unlinked by (Some n) e = let z : _≡_ {A = ℕ} 0 1 = cc in absurd (omega arith)
+
+-- the trailer's limits, as orders of numbers
+pub record Within (t : Trailer) (bytes : ℕ) : Type 0 where
+  pub few : t .places ≤ 4096
+  pub links-few : t .links ≤ 16384
+  pub start-in : t .start < t .places
+  pub goal-in : t .goal < t .places
+
+pub within : (t : Trailer) (bytes : ℕ) → in-limits t bytes ≡ true → Within t bytes
+within t bytes h =
+    let counts = leb 1 (t .places) && leb (t .places) 4096 && leb (t .links) 16384 in
+    let ends = ltb (t .start) (t .places) && ltb (t .goal) (t .places) in
+    let fits = eqb (t .back) (8 * t .places + 16 * t .links + 16) && leb (t .back) bytes in
+    let p = and-parts (counts && ends) fits h in
+    let q = and-parts counts ends (p .0) in
+    let c = and-parts (leb 1 (t .places) && leb (t .places) 4096) (leb (t .links) 16384) (q .0) in
+    let d = and-parts (leb 1 (t .places)) (leb (t .places) 4096) (c .0) in
+    let e = and-parts (ltb (t .start) (t .places)) (ltb (t .goal) (t .places)) (q .1) in
+    record {
+      few = leb-true (t .places) 4096 (d .1);
+      links-few = leb-true (t .links) 16384 (c .1);
+      start-in = ltb-true (t .start) (t .places) (e .0);
+      goal-in = ltb-true (t .goal) (t .places) (e .1);
+    }
+
+module _ (file : List ℕ) (bytes : (i : ℕ) → getD file i 0 < 256) where
+  word : (at : ℕ) → four-bytes file at < 2 ^ 32
+  word at = omega (arith, bytes at, bytes (at + 1), bytes (at + 2), bytes (at + 3))
+
+  place-is : (p : ℕ) → p < trailer-of file .places → place-in (place-records file) p ≡ place-record file p
+  place-is p l = getD-map-counting (place-record file) 0 (trailer-of file .places) p p no-place l (omega arith)
+
+  link-is : (n : ℕ) → n < trailer-of file .links → link-in (link-records file) n ≡ link-record file n
+  link-is n l = getD-map-counting (link-record file) 0 (trailer-of file .links) n n no-link l (omega arith)
+
+  pub places-are : length (place-records file) ≡ trailer-of file .places
+  places-are = length-map-counting (place-record file) 0 (trailer-of file .places)
+
+  pub links-are : length (link-records file) ≡ trailer-of file .links
+  links-are = length-map-counting (link-record file) 0 (trailer-of file .links)
+
+  rules : in-limits (trailer-of file) (length file) ≡ true → records-refusal file ≡ None → Rules (trailer-of file .start) (trailer-of file .goal) (place-records file) (link-records file)
+  rules h e =
+      let t = trailer-of file in
+      let w = within t (length file) h in
+      let links = both-none (at-link 4 (lowest-failing (keeps-rules (t .places)) (link-records file))) _ e in
+      let rest = both-none (require (goal-is-zero (place-record file (t .goal))) (refuse 5 None)) (at-link 5 (lowest-failing (estimate-holds file) (link-records file))) (links .1) in
+      let kept = holds-at (keeps-rules (t .places)) (link-record file) (t .links) (unlinked 4 (lowest-failing (keeps-rules (t .places)) (link-records file)) (links .0)) in
+      let fair = holds-at (estimate-holds file) (link-record file) (t .links) (unlinked 5 (lowest-failing (estimate-holds file) (link-records file)) (rest .1)) in
+      record {
+        places-few = omega (arith, places-are, w .few);
+        start-in = omega (arith, places-are, w .start-in);
+        goal-in = omega (arith, places-are, w .goal-in);
+        links-few = omega (arith, links-are, w .links-few);
+        small = λ p l.
+            let q : p < t .places = omega (arith, places-are) in
+            subst (λ (r : PlaceRecord). (r .lifts < 2 ^ 32) × (r .ms < 2 ^ 32)) (sym (place-is p q)) (word _, word _);
+        ruled = λ n l.
+            let q : n < t .links = omega (arith, links-are) in
+            (λ i. keeps-rules (places-are i) (link-is n q i)) ∙ kept n q;
+        goal-zero = ap goal-is-zero (place-is (t .goal) (w .goal-in)) ∙ required (goal-is-zero (place-record file (t .goal))) (refuse 5 None) (rest .0);
+        estimates = λ n l.
+            let q : n < t .links = omega (arith, links-are) in
+            let law = ruled (t .places) (link-record file n) (kept n q) in
+            ap (λ (r : LinkRecord). keeps-estimate (estimate-of (place-in (place-records file) (r .from))) (estimate-of (place-in (place-records file) (r .to))) r) (link-is n q)
+            ∙ (λ i. keeps-estimate (estimate-of (place-is (link-record file n .from) (law .from-in) i)) (estimate-of (place-is (link-record file n .to) (law .to-in) i)) (link-record file n))
+            ∙ fair n q;
+      }
+
+  pub drawn-lawful : (place-room link-room : ℕ) → file-refusal file place-room link-room ≡ None → Lawful (drawn file)
+  drawn-lawful place-room link-room e =
+      let p = both-none (trailer-refusal file) _ e in
+      let q = both-none (room-refusal (trailer-of file) place-room link-room) (records-refusal file) (p .1) in
+      let r = both-none (require (is-chart file) (refuse 1 None)) (require (in-limits (trailer-of file) (length file)) (refuse 2 None)) (p .0) in
+      records-lawful (trailer-of file .start) (trailer-of file .goal) (place-records file) (link-records file)
+      (rules (required (in-limits (trailer-of file) (length file)) (refuse 2 None) (r .1)) (q .1))

@@ -1,0 +1,5 @@
+pub mod Lowest
+pub mod Ruled
+pub mod Written
+pub mod Lawful
+pub mod Drawn

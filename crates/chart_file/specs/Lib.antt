@@ -1,0 +1,3 @@
+pub mod Records
+pub mod File
+pub mod Checks
