@@ -6,5 +6,6 @@ pub mod link;
 pub use chart::Chart;
 pub use chart::refusal_of;
 pub use fault::Cause;
+pub use fault::CauseDisplay;
 pub use fault::ChartFault;
 pub use link::Link;

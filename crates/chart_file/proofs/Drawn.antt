@@ -8,7 +8,7 @@ use lib.Dec.{eqb, leb, ltb}
 use lib.ListN.{getD, length, take, drop}
 use Rattle.std.proofs.shelf.Counted.{getD-map-counting, length-map-counting}
 use Rattle.std.proofs.shelf.Lists.{take-at}
-use Rattle.std.proofs.shelf.Tests.{and-parts, leb-true, ltb-true}
+use Rattle.std.proofs.shelf.Tests.{and-parts, eqb-true, leb-true, ltb-true}
 use Rattle.std.specs.Iters.{counting}
 use Rattle.std.specs.declared.option.Option.{Option}
 use Rattle.std.specs.declared.option.Option.the-variants.{Some, None}
@@ -21,45 +21,9 @@ use Rattle.chart_file.specs.declared.records.LinkRecord.{LinkRecord}
 use Rattle.chart_file.specs.declared.records.PlaceRecord.{PlaceRecord}
 use Rattle.chart_file.specs.declared.trailer.Trailer.{Trailer}
 use Rattle.chart_file.proofs.Lawful.{Rules, link-in, no-link, no-place, place-in, records-lawful}
+use Rattle.chart_file.proofs.Limits.{both-none, required, unlinked, within}
 use Rattle.chart_file.proofs.Lowest.{holds-at}
 use Rattle.chart_file.proofs.Ruled.{ruled}
-
--- no refusal means that no part refuses
-both-none : (a b : Option Refusal) → or-else a b ≡ None → (a ≡ None) × (b ≡ None)
-both-none None b e = (refl, e)
-both-none (Some r) b e = let z : _≡_ {A = ℕ} 0 1 = cc in absurd (omega arith)
-
-pub required : (b : Bool) (r : Refusal) → require b r ≡ None → b ≡ true
-required true r e = refl
-required false r e = let z : _≡_ {A = ℕ} 0 1 = cc in absurd (omega arith)
-
-unlinked : (by : ℕ) (o : Option ℕ) → at-link by o ≡ None → o ≡ None
-unlinked by None e = refl
-unlinked by (Some n) e = let z : _≡_ {A = ℕ} 0 1 = cc in absurd (omega arith)
-
--- the trailer's limits, as orders of numbers
-pub record Within (t : Trailer) (bytes : ℕ) : Type 0 where
-  pub few : t .places ≤ 4096
-  pub links-few : t .links ≤ 16384
-  pub start-in : t .start < t .places
-  pub goal-in : t .goal < t .places
-
-pub within : (t : Trailer) (bytes : ℕ) → in-limits t bytes ≡ true → Within t bytes
-within t bytes h =
-    let counts = leb 1 (t .places) && leb (t .places) 4096 && leb (t .links) 16384 in
-    let ends = ltb (t .start) (t .places) && ltb (t .goal) (t .places) in
-    let fits = eqb (t .back) (8 * t .places + 16 * t .links + 16) && leb (t .back) bytes in
-    let p = and-parts (counts && ends) fits h in
-    let q = and-parts counts ends (p .0) in
-    let c = and-parts (leb 1 (t .places) && leb (t .places) 4096) (leb (t .links) 16384) (q .0) in
-    let d = and-parts (leb 1 (t .places)) (leb (t .places) 4096) (c .0) in
-    let e = and-parts (ltb (t .start) (t .places)) (ltb (t .goal) (t .places)) (q .1) in
-    record {
-      few = leb-true (t .places) 4096 (d .1);
-      links-few = leb-true (t .links) 16384 (c .1);
-      start-in = ltb-true (t .start) (t .places) (e .0);
-      goal-in = ltb-true (t .goal) (t .places) (e .1);
-    }
 
 module _ (file : List ℕ) (bytes : (i : ℕ) → getD file i 0 < 256) where
   word : (at : ℕ) → four-bytes file at < 2 ^ 32

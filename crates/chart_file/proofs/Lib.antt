@@ -1,5 +1,6 @@
 pub mod Lowest
 pub mod Ruled
-pub mod Written
+pub mod Limits
 pub mod Lawful
 pub mod Drawn
+pub mod Written

@@ -33,8 +33,8 @@ pub impl PriceKind for Lift as LiftKind {
         }
     }
 
-    fn closed() -> Lift {
-        Lift::Closed
+    fn closed() -> Self {
+        Self::Closed
     }
 
     fn plus(self, other: Lift) -> Lift {
@@ -77,23 +77,19 @@ pub impl PriceKind for Lift as LiftKind {
         let [lifts, ms] = numbers else {
             return None;
         };
-        let Some(lifts) = Number::new(*lifts) else {
-            return None;
-        };
-        match Number::new(*ms) {
-            Some(ms) => Some(Lift::Open { lifts, ms }),
-            None => None,
-        }
+        let lifts = Number::new(*lifts)?;
+        let ms = Number::new(*ms)?;
+        Some(Lift::Open { lifts, ms })
     }
 
     fn number(self, position: usize) -> Option<u64> {
-        let Lift::Open { lifts, ms } = self else {
-            return None;
-        };
-        match position {
-            0 => Some(lifts.get()),
-            1 => Some(ms.get()),
-            _ => None,
+        match self {
+            Lift::Open { lifts, ms } => match position {
+                0 => Some(lifts.get()),
+                1 => Some(ms.get()),
+                _ => None,
+            },
+            Lift::Closed => None,
         }
     }
 

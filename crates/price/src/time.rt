@@ -29,8 +29,8 @@ pub impl PriceKind for Time as TimeKind {
         Time::Open { ms: Number::ZERO }
     }
 
-    fn closed() -> Time {
-        Time::Closed
+    fn closed() -> Self {
+        Self::Closed
     }
 
     fn plus(self, other: Time) -> Time {
@@ -67,18 +67,13 @@ pub impl PriceKind for Time as TimeKind {
         let [ms] = numbers else {
             return None;
         };
-        match Number::new(*ms) {
-            Some(ms) => Some(Time::Open { ms }),
-            None => None,
-        }
+        let ms = Number::new(*ms)?;
+        Some(Time::Open { ms })
     }
 
     fn number(self, position: usize) -> Option<u64> {
-        let Time::Open { ms } = self else {
-            return None;
-        };
-        match position {
-            0 => Some(ms.get()),
+        match self {
+            Time::Open { ms } if position == 0 => Some(ms.get()),
             _ => None,
         }
     }

@@ -2,26 +2,22 @@ use mathlib.Core.Path.{_≡_, refl, sym, ap, _∙_}
 use mathlib.Core.List.{List, _++_}
 use Prim.Native.Nat.{ℕ, _<_}
 use native.Mathlib.Omega.{arith}
-use lib.ListN.{drop, getD, length, take}
-use Rattle.std.proofs.shelf.Lists.{take-at}
+use lib.ListN.{drop, getD, length}
 use Rattle.std.specs.declared.option.Option.{Option}
-use Rattle.std.specs.declared.option.Option.the-variants.{Some, None}
+use Rattle.std.specs.declared.option.Option.the-variants.{None}
 use Rattle.chart.specs.Refusals.{Refusal, unless}
 use Rattle.chart_file.specs.Checks.{file-refusal}
 use Rattle.chart_file.specs.File.{link-records, place-records, trailer-of}
 use Rattle.chart_file.specs.Records.{records-mean}
 use Rattle.chart_file.specs.declared.trailer.Trailer.{Trailer}
 use Rattle.chart_file.proofs.Drawn.{drawn-lawful, links-are, places-are}
+use Rattle.chart_file.proofs.Written.{front, not-refused}
 use Rattle.chart_file.proofs.read.read_chart.Needs as need
 
 -- memory that begins with the records of a file, which is not refused
 written : {X : Type 0} (o : Option Refusal) → None ≡ o → (m n : ℕ) → m ≡ n → (rs before after : List X) →
-  after ≡ rs ++ drop m before → after ≡ unless o before (rs ++ drop n before)
-written {X} None e m n same rs before after h = h ∙ ap (λ (k : ℕ). rs ++ drop k before) same
-written (Some r) e m n same rs before after h = let z : _≡_ {A = ℕ} 0 1 = cc in absurd (omega arith)
-
-front : {X : Type 0} (n : ℕ) (rs before after : List X) → length rs ≡ n → after ≡ rs ++ drop n before → take n after ≡ rs
-front n rs before after l h = ap (take n) h ∙ take-at rs (drop n before) n l
+    after ≡ rs ++ drop m before → after ≡ unless o before (rs ++ drop n before)
+written {X} o e m n same rs before after h = h ∙ ap (λ (k : ℕ). rs ++ drop k before) same ∙ sym (not-refused o e before (rs ++ drop n before))
 
 pub returns : need.returns
 returns c =
@@ -43,4 +39,5 @@ returns c =
       place-memory = written refusal (given .answer) (t .places) (trailer-of file .places) place-count (place-records file) places (c .write-places .last .memory) (c .write-places .ensures);
       link-memory = written refusal (given .answer) (t .links) (trailer-of file .links) link-count (link-records file) links (c .write-links .last .memory) (c .write-links .ensures);
       meaning = λ i. records-mean (whole i .start) (whole i .goal) (fronts i) (link-fronts i);
-      lawful = drawn-lawful file byte (length places) (length links) (sym (given .answer)) }
+      lawful = drawn-lawful file byte (length places) (length links) (sym (given .answer));
+    }

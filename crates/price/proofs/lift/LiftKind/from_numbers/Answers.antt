@@ -5,13 +5,16 @@ use Rattle.price.specs.declared.lift.Lift.the-variants.{Open}
 use Rattle.price.proofs.Made.{made, pair, refused}
 use Rattle.price.proofs.lift.LiftKind.from_numbers.Needs as need
 
-pub returns-in-rest-new : need.returns-in-rest-new
-returns-in-rest-new c = refused lift-kind (c .args .numbers .now) 0 (search needs) (c .in-rest-new .ensures tt)
+pub returns-in-Break-lifts : need.returns-in-Break-lifts
+returns-in-Break-lifts c =
+    rw (c .from-residual .ensures) (refused lift-kind (c .args .numbers .now) 0 (search needs) (c .in-Break-lifts .ensures tt))
 
-pub returns-in-Some-new : need.returns-in-Some-new
-returns-in-Some-new c = made lift-kind (c .args .numbers .now) _
-    (pair (c .args .numbers .now) (c .in-Some .lifts .value) (c .in-Some-new .ms .value) (search needs) (c .in-Some .ensures tt .1) (c .in-Some-new .ensures tt .1))
-    (lift-proper (Open (c .in-Some .lifts) (c .in-Some-new .ms)))
+pub returns-in-Break-ms : need.returns-in-Break-ms
+returns-in-Break-ms c =
+    rw (c .from-residual-in-Break-ms .ensures) (refused lift-kind (c .args .numbers .now) 1 (search needs) (c .in-Break-ms .ensures tt))
 
-pub returns-in-None : need.returns-in-None
-returns-in-None c = refused lift-kind (c .args .numbers .now) 1 (search needs) (c .in-None .ensures tt)
+pub returns : need.returns
+returns c = made lift-kind (c .args .numbers .now) _
+    (pair (c .args .numbers .now) (c .in-Continue-lifts .lifts .value) (c .in-Continue-ms .ms .value) (search needs)
+    (c .in-Continue-lifts .ensures tt .1) (c .in-Continue-ms .ensures tt .1))
+    (lift-proper (Open (c .in-Continue-lifts .lifts) (c .in-Continue-ms .ms)))

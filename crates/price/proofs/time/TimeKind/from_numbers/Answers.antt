@@ -5,10 +5,11 @@ use Rattle.price.specs.declared.time.Time.the-variants.{Open}
 use Rattle.price.proofs.Made.{made, refused, single}
 use Rattle.price.proofs.time.TimeKind.from_numbers.Needs as need
 
-pub returns-in-Some : need.returns-in-Some
-returns-in-Some c = made time-kind (c .args .numbers .now) _
-    (single (c .args .numbers .now) (c .in-Some .ms .value) (search needs) (c .in-Some .ensures tt .1))
-    (time-proper (Open (c .in-Some .ms)))
+pub returns-in-Break-ms : need.returns-in-Break-ms
+returns-in-Break-ms c =
+    rw (c .from-residual .ensures) (refused time-kind (c .args .numbers .now) 0 (search needs) (c .in-Break-ms .ensures tt))
 
-pub returns-in-None : need.returns-in-None
-returns-in-None c = refused time-kind (c .args .numbers .now) 0 (search needs) (c .in-None .ensures tt)
+pub returns : need.returns
+returns c = made time-kind (c .args .numbers .now) _
+    (single (c .args .numbers .now) (c .in-Continue-ms .ms .value) (search needs) (c .in-Continue-ms .ensures tt .1))
+    (time-proper (Open (c .in-Continue-ms .ms)))

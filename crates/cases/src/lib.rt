@@ -1,0 +1,5 @@
+// Tests that are many, in a crate of their own: a crate with tests is proved twice.
+#[cfg(test)]
+mod files;
+#[cfg(test)]
+mod prices;
