@@ -2,6 +2,8 @@
 mod fault;
 mod report;
 mod survey;
+#[cfg(test)]
+mod tests;
 
 use chart::Cause;
 use chart::CauseDisplay;
