@@ -1,5 +1,5 @@
 -- Refusals: a number, the link that it is about if any, and the height of the layer that refused.
-use mathlib.Core.Bool.{Bool, true, false, cond, not, _&&_, _||_}
+use mathlib.Core.Bool.{cond, not, _||_}
 use Prim.Native.Nat.{ℕ}
 use lib.Dec.{eqb}
 use Rattle.rows.specs.Rows.{Kind, Price, less, linkable}

@@ -1,25 +1,18 @@
 -- A file that is not refused draws a lawful chart.
-use mathlib.Core.Path.{_≡_, refl, sym, ap, subst, _∙_}
-use mathlib.Core.Bool.{Bool, true, false, cond, _&&_}
-use mathlib.Core.List.{List, [], _∷_, _++_, map}
-use Prim.Native.Nat.{ℕ, _+_, _*_, _^_, _<_, _≤_}
+use mathlib.Core.Path.{_≡_, sym, ap, subst, _∙_}
+use mathlib.Core.Bool.{true}
+use mathlib.Core.List.{List}
+use Prim.Native.Nat.{ℕ, _+_, _^_, _<_}
 use native.Mathlib.Omega.{arith}
-use lib.Dec.{eqb, leb, ltb}
-use lib.ListN.{getD, length, take, drop}
+use lib.ListN.{getD, length}
 use Rattle.std.proofs.shelf.Counted.{getD-map-counting, length-map-counting}
-use Rattle.std.proofs.shelf.Lists.{take-at}
-use Rattle.std.proofs.shelf.Tests.{and-parts, eqb-true, leb-true, ltb-true}
-use Rattle.std.specs.Iters.{counting}
-use Rattle.std.specs.declared.option.Option.{Option}
-use Rattle.std.specs.declared.option.Option.the-variants.{Some, None}
+use Rattle.std.specs.declared.option.Option.the-variants.{None}
 use Rattle.chart.specs.Lawful.{Lawful}
-use Rattle.chart.specs.Refusals.{Refusal}
-use Rattle.chart_file.specs.Checks.{at-link, estimate-holds, estimate-in, file-refusal, goal-is-zero, in-limits, lowest-failing, or-else, records-refusal, refuse, require, room-refusal, trailer-refusal}
-use Rattle.chart_file.specs.File.{drawn, four-bytes, is-chart, link-record, link-records, place-record, place-records, trailer-of}
-use Rattle.chart_file.specs.Records.{estimate-of, keeps-estimate, keeps-rules, records-mean}
+use Rattle.chart_file.specs.Checks.{at-link, estimate-holds, goal-is-zero, in-limits, lowest-failing, records-refusal, refuse, require}
+use Rattle.chart_file.specs.File.{drawn, four-bytes, link-record, link-records, place-record, place-records, trailer-of}
+use Rattle.chart_file.specs.Records.{estimate-of, keeps-estimate, keeps-rules}
 use Rattle.chart_file.specs.declared.records.LinkRecord.{LinkRecord}
 use Rattle.chart_file.specs.declared.records.PlaceRecord.{PlaceRecord}
-use Rattle.chart_file.specs.declared.trailer.Trailer.{Trailer}
 use Rattle.chart_file.proofs.Lawful.{Rules, link-in, no-link, no-place, place-in, records-lawful}
 use Rattle.chart_file.proofs.Limits.{both-none, required, unlinked, within}
 use Rattle.chart_file.proofs.Lowest.{holds-at}
@@ -69,10 +62,6 @@ module _ (file : List ℕ) (bytes : (i : ℕ) → getD file i 0 < 256) where
             ∙ fair n q;
       }
 
-  pub drawn-lawful : (place-room link-room : ℕ) → file-refusal file place-room link-room ≡ None → Lawful (drawn file)
-  drawn-lawful place-room link-room e =
-      let p = both-none (trailer-refusal file) _ e in
-      let q = both-none (room-refusal (trailer-of file) place-room link-room) (records-refusal file) (p .1) in
-      let r = both-none (require (is-chart file) (refuse 1 None)) (require (in-limits (trailer-of file) (length file)) (refuse 2 None)) (p .0) in
-      records-lawful (trailer-of file .start) (trailer-of file .goal) (place-records file) (link-records file)
-      (rules (required (in-limits (trailer-of file) (length file)) (refuse 2 None) (r .1)) (q .1))
+  pub drawn-lawful : in-limits (trailer-of file) (length file) ≡ true → records-refusal file ≡ None → Lawful (drawn file)
+  drawn-lawful h e =
+      records-lawful (trailer-of file .start) (trailer-of file .goal) (place-records file) (link-records file) (rules h e)

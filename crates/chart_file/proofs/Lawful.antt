@@ -1,9 +1,9 @@
 -- Records that keep the rules are a lawful chart.
-use mathlib.Core.Path.{_≡_, refl, sym, ap, subst, _∙_}
-use mathlib.Core.Bool.{Bool, true, false, not, _&&_}
+use mathlib.Core.Path.{_≡_, refl, sym, subst, _∙_}
+use mathlib.Core.Bool.{true}
 use mathlib.Core.Logic.{_⊎_, ⊎-elim}
-use mathlib.Core.List.{List, [], _∷_, map}
-use Prim.Native.Nat.{ℕ, _+_, _*_, _^_, _<_, _≤_}
+use mathlib.Core.List.{List, map}
+use Prim.Native.Nat.{ℕ, _^_, _<_, _≤_}
 use native.Mathlib.Omega.{arith}
 use lib.Dec.{eqb, lit≤}
 use lib.ListN.{getD, length}
@@ -11,7 +11,7 @@ use Rattle.std.proofs.shelf.Lists.{getD-map, getD-past, length-map}
 use Rattle.std.proofs.shelf.Tests.{and-parts, cases-lt, eqb-true, not-true}
 use Rattle.std.specs.declared.option.Option.{Option}
 use Rattle.std.specs.declared.option.Option.the-variants.{Some, None}
-use Rattle.rows.specs.Rows.{Price, closed, less, sum, zero-of}
+use Rattle.rows.specs.Rows.{closed, less, sum, zero-of}
 use Rattle.price.specs.Kinds.{lift-kind}
 use Rattle.chart.specs.Lawful.{Consistent, Estimate-law, Lawful, Lawful-link, Link-law}
 use Rattle.chart.specs.Meaning.{Link, estimate-at, link-at}

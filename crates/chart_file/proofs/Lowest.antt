@@ -1,16 +1,14 @@
 -- The lowest index at which a test fails, of a list that is made from a function of the index.
-use mathlib.Core.Path.{_≡_, refl, sym, ap, subst, _∙_}
+use mathlib.Core.Path.{_≡_, refl, sym, ap, _∙_}
 use mathlib.Core.Bool.{Bool, true, false, cond}
-use mathlib.Core.Logic.{⊎-elim}
 use mathlib.Core.List.{List, [], _∷_, map}
-use Prim.Native.Nat.{ℕ, zero, suc, _+_, _<_}
+use Prim.Native.Nat.{ℕ, zero, suc, _<_}
 use native.Mathlib.Omega.{arith}
-use native.Mathlib.Nat.{zero-add}
 use lib.ListN.{getD, length}
 use Rattle.std.specs.Iters.{counting}
 use Rattle.std.specs.Options.{mapped}
 use Rattle.std.proofs.shelf.Counted.{getD-map-counting, length-map-counting}
-use Rattle.std.proofs.shelf.Tests.{both-ways, cases-bool, cond-false, cond-true}
+use Rattle.std.proofs.shelf.Tests.{cond-false, cond-true}
 use Rattle.std.specs.declared.option.Option.{Option}
 use Rattle.std.specs.declared.option.Option.the-variants.{Some, None}
 use Rattle.chart_file.specs.Checks.{lowest-failing}

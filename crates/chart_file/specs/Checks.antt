@@ -1,9 +1,10 @@
 -- Why a chart file is refused, if it is: one definition over all its records.
-use mathlib.Core.Bool.{Bool, true, false, cond, not, _&&_, _||_}
+use mathlib.Core.Path.{_≡_}
+use mathlib.Core.Bool.{Bool, true, false, cond, not, _&&_}
 use mathlib.Core.List.{List, [], _∷_}
-use Prim.Native.Nat.{ℕ, suc, _+_, _*_}
+use Prim.Native.Nat.{ℕ, suc, _+_, _*_, _≤_}
 use lib.Dec.{eqb, leb, ltb}
-use lib.ListN.{getD, length}
+use lib.ListN.{length}
 use Rattle.rows.specs.Rows.{Price}
 use Rattle.chart.specs.Refusals.{Refusal}
 use Rattle.std.specs.Options.{mapped}
@@ -77,3 +78,11 @@ room-refusal t place-room link-room = require (leb (t .places) place-room && leb
 abbrev pub file-refusal : List ℕ → ℕ → ℕ → Option Refusal
 file-refusal file place-room link-room =
     or-else (trailer-refusal file) (or-else (room-refusal (trailer-of file) place-room link-room) (records-refusal file))
+
+-- what holds of the trailer of a file that is not refused
+pub record Passed (file : List ℕ) (place-room link-room : ℕ) (t : Trailer) : Type 0 where
+  pub whole : t ≡ trailer-of file
+  pub within : in-limits t (length file) ≡ true
+  pub places-fit : t .places ≤ place-room
+  pub links-fit : t .links ≤ link-room
+  pub records : records-refusal file ≡ None

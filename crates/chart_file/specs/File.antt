@@ -3,7 +3,7 @@ use mathlib.Core.Bool.{Bool, _&&_}
 use mathlib.Core.List.{List, map}
 use Prim.Native.Nat.{ℕ, _+_, _-_, _*_}
 use lib.Dec.{eqb, leb}
-use lib.ListN.{getD, length}
+use lib.ListN.{getD, length, take}
 use Rattle.std.specs.Iters.{counting}
 use Rattle.chart.specs.Meaning.{Meaning}
 use Rattle.chart_file.specs.declared.records.LinkRecord.{LinkRecord}
@@ -67,6 +67,10 @@ place-records file = map (place-record file) (counting 0 (trailer-of file .place
 
 abbrev pub link-records : List ℕ → List LinkRecord
 link-records file = map (link-record file) (counting 0 (trailer-of file .links))
+
+-- the chart of memory that was filled: its first records, as many as the trailer counts
+abbrev pub trailer-mean : Trailer → List PlaceRecord → List LinkRecord → Meaning
+trailer-mean t ps ls = records-mean (t .start) (t .goal) (take (t .places) ps) (take (t .links) ls)
 
 -- the chart that a file draws
 abbrev pub drawn : List ℕ → Meaning

@@ -6,8 +6,7 @@ use lib.Dec.{eqb, ltb}
 use Rattle.rows.specs.Rows.{Price, closed, less, linkable, open-at, sum, zero-of}
 use Rattle.price.specs.Kinds.{lift-kind}
 use Rattle.chart.specs.Meaning.{Link, Meaning}
-use Rattle.std.specs.declared.option.Option.{Option}
-use Rattle.std.specs.declared.option.Option.the-variants.{Some, None}
+use Rattle.std.specs.declared.option.Option.the-variants.{Some}
 use Rattle.chart_file.specs.declared.records.LinkRecord.{LinkRecord}
 use Rattle.chart_file.specs.declared.records.PlaceRecord.{PlaceRecord}
 

@@ -3,7 +3,7 @@ ghost use mathlib.Core.Path.{_≡_};
 ghost use mathlib.Core.Bool.{true};
 ghost use lib.ListN.{length};
 ghost use Rattle.chart.specs.Refusals.{number, refused, told};
-ghost use Rattle.chart_file.specs.Checks.{file-refusal, goal-is-zero, in-limits, records-refusal, refuse, trailer-refusal};
+ghost use Rattle.chart_file.specs.Checks.{Passed, file-refusal, goal-is-zero, in-limits, records-refusal, refuse, trailer-refusal};
 ghost use Rattle.chart_file.specs.File.{trailer-of};
 ghost use Rattle.std.specs.Options.{mapped};
 ghost use Rattle.std.specs.Vec.{made};
@@ -65,7 +65,7 @@ fn check_records(frame: Frame<'_>) -> Option<ChartFault>
 // by 1, 2, 9, 4 or 5 that comes first.
 pub fn check_file(file: &[u8], place_room: usize, link_room: usize) -> Result<Trailer, ChartFault>
     ensures answer { λ r. ⌜ refused r ≡ file-refusal (now (file .entry)) «place_room» «link_room» ⌝ }
-    ensures whole { λ r. ⌜ made r (λ t. t ≡ trailer-of (now (file .entry))) ⌝ }
+    ensures passed { λ r. ⌜ made r (Passed (now (file .entry)) «place_room» «link_room») ⌝ }
 {
     let trailer = check_trailer(file)?;
     if usize::from(trailer.places) > place_room || usize::from(trailer.links) > link_room {

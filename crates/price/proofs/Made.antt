@@ -1,6 +1,6 @@
 -- Which lists of numbers are a price of a kind.
-use mathlib.Core.Path.{_≡_, refl, sym, ap, _∙_}
-use mathlib.Core.Bool.{Bool, true, false}
+use mathlib.Core.Path.{_≡_, sym, ap, _∙_}
+use mathlib.Core.Bool.{true, false}
 use mathlib.Core.List.{List, [], _∷_}
 use Prim.Native.Nat.{ℕ, zero, suc, _<_}
 use native.Mathlib.Omega.{arith}
@@ -8,10 +8,9 @@ use lib.Dec.{eqb, ltb}
 use lib.ListN.{getD, length}
 use Rattle.std.proofs.shelf.Tests.{and-left, and-right, cond-false, cond-true, le-ltb}
 use Rattle.std.proofs.shelf.Tests.{cases-lt}
-use Rattle.std.specs.declared.option.Option.{Option}
 use Rattle.std.specs.declared.option.Option.the-variants.{Some, None}
 use mathlib.Core.Logic.{⊎-elim}
-use Rattle.rows.specs.Rows.{Kind, Price, all-below, is-row, open-at, price-of}
+use Rattle.rows.specs.Rows.{Kind, all-below, is-row, open-at, price-of}
 
 -- the numbers that were read, as the list that was given
 pub single : (xs : List ℕ) (a : ℕ) → length xs ≡ 1 → a ≡ getD xs 0 0 → a ∷ [] ≡ xs

@@ -1,6 +1,6 @@
 -- The two kinds of price, and the price that a value of each stands for.
-use mathlib.Core.List.{List, [], _∷_}
-use Prim.Native.Nat.{ℕ, _^_}
+use mathlib.Core.List.{[], _∷_}
+use Prim.Native.Nat.{_^_}
 use Rattle.rows.specs.Rows.{Price, Kind, closed, open-at}
 use Rattle.price.specs.declared.time.Time.{Time}
 use Rattle.price.specs.declared.lift.Lift.{Lift}

@@ -1,11 +1,10 @@
 -- The two kinds keep the laws, and every value of them is a price of its kind.
-use mathlib.Core.Path.{_≡_, refl}
+use mathlib.Core.Path.{refl}
 use mathlib.Core.Bool.{true, _&&_}
-use mathlib.Core.List.{[], _∷_}
-use Prim.Native.Nat.{ℕ, _^_, _<_}
+use Prim.Native.Nat.{_^_}
 use lib.Dec.{ltb, lit≤}
 use Rattle.std.proofs.shelf.Tests.{and-from, lt-ltb}
-use Rattle.rows.specs.Rows.{Proper, all-below}
+use Rattle.rows.specs.Rows.{Proper}
 use Rattle.price.specs.Kinds.{lift-kind, lift-value, time-kind, time-value}
 use Rattle.rows.specs.Laws.{Laws}
 use Rattle.price.specs.declared.lift.Lift.{Lift}

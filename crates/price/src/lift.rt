@@ -1,5 +1,4 @@
 // Travel counted first by lifts of the spindle, then by time.
-ghost use mathlib.Core.Path.{_≡_};
 ghost use Rattle.price.specs.Proper.{lift-laws, lift-proper};
 ghost use Rattle.price.specs.Kinds.{lift-kind, lift-value};
 use crate::kind::PriceKind;

@@ -1,5 +1,4 @@
 // Travel time.
-ghost use mathlib.Core.Path.{_≡_};
 ghost use Rattle.price.specs.Proper.{time-laws, time-proper};
 ghost use Rattle.price.specs.Kinds.{time-kind, time-value};
 use crate::kind::PriceKind;

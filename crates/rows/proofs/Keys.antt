@@ -6,9 +6,9 @@ use Prim.Native.Nat.{ℕ}
 use native.Mathlib.Omega.{arith}
 use lib.Dec.{ltb}
 use Rattle.std.proofs.shelf.Tests.{both-ways, cases-bool, cond-false, cond-true, le-ltb, ltb-false, ltb-true}
-use Rattle.rows.specs.Rows.{Price, less}
+use Rattle.rows.specs.Rows.{less}
 use Rattle.rows.specs.Keys.{Key, before, in-turn, key-less}
-use Rattle.rows.proofs.Order.{less-chain, less-one-way, less-total}
+use Rattle.rows.proofs.Order.{less-chain, less-one-way}
 
 -- what a comparison that failed, or that held, says
 pub in-turn-failed : (t u w : Bool) → in-turn t u w ≡ false → (t ≡ false) × ((u ≡ true) ⊎ (w ≡ false))

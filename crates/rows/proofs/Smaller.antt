@@ -1,7 +1,7 @@
 -- The smaller of two prices.
-use mathlib.Core.Path.{_≡_, refl, sym, ap, _∙_}
+use mathlib.Core.Path.{_≡_, sym, ap, _∙_}
 use mathlib.Core.Logic.{⊎-elim}
-use mathlib.Core.Bool.{Bool, true, false, cond}
+use mathlib.Core.Bool.{true, false}
 use Rattle.std.proofs.shelf.Tests.{both-ways, cases-bool, cond-false, cond-true}
 use Rattle.rows.specs.Rows.{Price, less, smaller}
 use Rattle.rows.proofs.Order.{less-chain, less-one-way, less-total}

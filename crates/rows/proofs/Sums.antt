@@ -1,14 +1,14 @@
 -- What the sum keeps, for every kind.
-use mathlib.Core.Path.{_≡_, refl, sym, ap, subst, _∙_}
-use mathlib.Core.Logic.{_⊎_, inl, inr, ⊎-elim}
-use mathlib.Core.Bool.{Bool, true, false, cond, _&&_}
+use mathlib.Core.Path.{_≡_, refl, sym, ap, _∙_}
+use mathlib.Core.Logic.{_⊎_, ⊎-elim}
+use mathlib.Core.Bool.{Bool, true, false, cond}
 use mathlib.Core.List.{List, [], _∷_}
 use Prim.Native.Nat.{ℕ, zero, suc, _+_, _≤_, _<_}
 use native.Mathlib.Omega.{arith}
 use native.Mathlib.Nat.{add-assoc, add-comm, zero-add}
 use lib.Dec.{ltb, eqb}
 use lib.ListN.{length, replicate}
-use Rattle.std.proofs.shelf.Tests.{and-cases, and-from, and-left, and-parts, and-right, both-ways, cases-order, cond-false, cond-true, eq-eqb, eqb-true, le-ltb, lt-ltb, ltb-false, ltb-true, ne-eqb}
+use Rattle.std.proofs.shelf.Tests.{and-cases, and-from, and-left, and-parts, and-right, both-ways, cases-order, cond-false, cond-true, eq-eqb, eqb-true, le-ltb, lt-ltb, ltb-false, ne-eqb}
 use Rattle.rows.specs.Rows.{Kind, Price, Proper, add-rows, all-below, capped, closed, is-open, is-row, less, zero-of, open-at, row-less, sum}
 use Rattle.rows.specs.Laws.{Laws}
 use Rattle.rows.proofs.Order.{less-self, less-total}

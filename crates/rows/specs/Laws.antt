@@ -1,7 +1,7 @@
 -- What the order and the sum of prices keep, for every kind.
 use mathlib.Core.Path.{_≡_}
-use mathlib.Core.Bool.{Bool, true, false}
-use Prim.Native.Nat.{ℕ, _≤_}
+use mathlib.Core.Bool.{true, false}
+use Prim.Native.Nat.{_≤_}
 use lib.ListN.{length}
 use Rattle.rows.specs.Rows.{Price, Kind, less, sum, zero-of, is-open, Proper}
 

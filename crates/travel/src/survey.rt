@@ -1,6 +1,5 @@
 // Reading a chart file, and what is on it.
 ghost use mathlib.Core.Path.{_≡_};
-ghost use Prim.Native.Nat.{_≤_};
 ghost use lib.ListN.{length};
 ghost use Rattle.chart.specs.Refusals.{refused};
 ghost use Rattle.chart_file.specs.Checks.{file-refusal};

@@ -1,5 +1,5 @@
-use mathlib.Core.Path.{_≡_, refl, sym, ap, _∙_}
-use Prim.Native.Nat.{ℕ, _-_}
+use mathlib.Core.Path.{_≡_, ap, _∙_}
+use Prim.Native.Nat.{_-_}
 use native.Mathlib.Omega.{arith}
 use lib.ListN.{length, take}
 use Rattle.std.proofs.shelf.Counted.{length-map-counting}
@@ -7,8 +7,7 @@ use Rattle.chart_file.specs.Checks.{file-refusal}
 use Rattle.chart_file.specs.File.{link-record, link-records, trailer-of}
 use Rattle.chart_file.specs.declared.trailer.Trailer.{Trailer}
 use Rattle.chart_file.proofs.Written.{front, not-refused}
-use Rattle.travel.specs.Survey.{open-count, report-of}
-use Rattle.travel.specs.declared.report.Report.{Report}
+use Rattle.travel.specs.Survey.{open-count}
 use Rattle.travel.proofs.survey.survey_into.Needs as need
 
 pub returns : need.returns
