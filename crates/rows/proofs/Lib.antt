@@ -2,3 +2,4 @@ pub mod Order
 pub mod Smaller
 pub mod Sums
 pub mod Keys
+pub mod Numbers
