@@ -1,0 +1,4 @@
+pub mod Few
+pub mod Limits
+pub mod Chains
+pub mod Prices
