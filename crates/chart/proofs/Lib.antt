@@ -1,4 +1,5 @@
 pub mod Few
+pub mod Least
 pub mod Limits
 pub mod Chains
 pub mod Prices

@@ -40,6 +40,11 @@ pub record True-distance (m : Meaning) (x : ℕ) (p : Price) : Type 0 where
   pub least : (ps : List ℕ) (q : Price) → Chain m x ps q → less q p ≡ false
   pub met : ((ps : List ℕ) × Chain m x ps p) ⊎ ((p ≡ closed) × ((ps : List ℕ) (q : Price) → Chain m x ps q → ⊥))
 
+-- the smallest cost of the links of a list that pass a test, closed if there is none
+unfoldable pub least-over : (Option Link → Bool) → (Option Link → Price) → List (Option Link) → Price
+least-over test cost [] = closed
+least-over test cost (l ∷ ls) = cond (test l) (smaller (cost l) (least-over test cost ls)) (least-over test cost ls)
+
 abbrev pub joins : ℕ → ℕ → Option Link → Bool
 joins a b None = false
 joins a b (Some l) = eqb (l .from) a && eqb (l .to) b
@@ -48,15 +53,14 @@ abbrev pub price-of : Option Link → Price
 price-of None = closed
 price-of (Some l) = l .price
 
--- the lowest price of the links of a list from place a to place b, closed if none is open
-unfoldable pub cheapest : List (Option Link) → ℕ → ℕ → Price
-cheapest [] a b = closed
-cheapest (l ∷ ls) a b = cond (joins a b l) (smaller (price-of l) (cheapest ls a b)) (cheapest ls a b)
+-- the lowest price of the links from place a to place b, closed if none is open
+abbrev pub cheapest : Meaning → ℕ → ℕ → Price
+cheapest m a b = least-over (joins a b) price-of (m .links)
 
 -- the price from a place on, along a list of places, by the cheapest open links between neighbours
 unfoldable pub price-along : Meaning → ℕ → List ℕ → Price
 price-along m a [] = zero-of (m .kind)
-price-along m a (b ∷ ps) = sum (m .kind) (cheapest (m .links) a b) (price-along m b ps)
+price-along m a (b ∷ ps) = sum (m .kind) (cheapest m a b) (price-along m b ps)
 
 -- the price of a list of places, the start first: zero at one place, closed where two neighbours have no open link
 abbrev pub places-price : Meaning → List ℕ → Price
