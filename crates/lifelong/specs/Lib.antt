@@ -1,0 +1,5 @@
+pub mod Standings
+pub mod Step
+pub mod Run
+pub mod Trace
+pub mod Bounds
