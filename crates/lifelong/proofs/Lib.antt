@@ -1,2 +1,5 @@
 pub mod Picks
 pub mod Runs
+pub mod Looks
+pub mod Ranks
+pub mod Reach

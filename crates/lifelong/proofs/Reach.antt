@@ -1,0 +1,139 @@
+-- Below the key of every uneven place, standings are true distances.
+use mathlib.Core.Path.{_≡_, refl, sym, ap, subst, _∙_}
+use mathlib.Core.Logic.{_⊎_, inl, inr, ⊎-elim}
+use mathlib.Core.Bool.{Bool, true, false}
+use mathlib.Core.List.{List, [], _∷_}
+use Prim.Native.Nat.{ℕ, zero, suc, _+_, _≤_, _<_, min}
+use native.Mathlib.Omega.{arith}
+use Rattle.std.proofs.shelf.Tests.{cases-eq, cases-lt}
+use Rattle.rows.specs.Rows.{Price, Proper, closed, is-open, less, sum, zero-of}
+use Rattle.rows.proofs.Sums.{sum-proper}
+use Rattle.rows.proofs.Numbers.{below-top-is-open, not-less-rank, rank, rank-not-less, rank-sum, rank-zero, top-is-closed}
+use Rattle.chart.specs.Lawful.{Consistent, Lawful}
+use Rattle.chart.specs.Meaning.{Link, Meaning, estimate-at, link-at, places}
+use Rattle.chart.specs.Routes.{Among, Chain, True-distance, begin, more}
+use Rattle.chart.proofs.Chains.{chain-in, chain-proper, chain-rank, chain-within, distance-by}
+use Rattle.chart.proofs.Limits.{clear-estimate, estimate-proper, floor-proper, floor-rank, floor-within, link-law, link-sum, price-rank, within-more}
+use Rattle.std.specs.declared.option.Option.the-variants.{Some}
+use Rattle.lifelong.specs.Standings.{lookahead, standing-at}
+use Rattle.lifelong.specs.Step.{Even}
+use Rattle.lifelong.specs.Bounds.{Bounds}
+use Rattle.lifelong.proofs.Looks.{By, look-proper, look-start}
+use Rattle.lifelong.proofs.Ranks.{Before, Pair, Upto, ahead, ahead-below, ahead-by, ahead-capped, ahead-start, before-by, before-upto, cost, even-rank, hint, limit, or-even, over-link, pair, pair-at, plus, stand, upto-by}
+
+-- Along a link keys rise: the one place where the law of estimates is used.
+pub link-key : (m : Meaning) → Lawful m → (n : ℕ) (l : Link) → link-at m n ≡ Some l → (a b : ℕ) → a < limit m → plus m a (cost m l) ≤ b → Before (pair-at m (l .from) a) (pair-at m (l .to) b)
+link-key m law n l e a b lt le =
+    let k = m .kind in
+    let w = link-law m law n l e in
+    let from-proper = estimate-proper m law (l .from) (w .from-in) in
+    let to-proper = estimate-proper m law (l .to) (w .to-in) in
+    let f-proper = floor-proper m law n l e in
+    let rises : less (sum k (l .floor) (estimate-at m (l .to))) (estimate-at m (l .from)) ≡ false = subst (Consistent m) e (law .consistent n) in
+    let s : rank k (sum k (l .floor) (estimate-at m (l .to))) ≡ plus m (rank k (l .floor)) (hint m (l .to)) =
+        rank-sum k (l .floor) (estimate-at m (l .to)) f-proper to-proper (clear-estimate m law (l .floor) (l .to) (w .to-in) (within-more k 1 4096 (l .floor) (omega arith) (floor-within m law n l e))) in
+    let h : hint m (l .from) ≤ rank k (sum k (l .floor) (estimate-at m (l .to))) =
+        not-less-rank k (sum k (l .floor) (estimate-at m (l .to))) (estimate-at m (l .from)) (sum-proper k (l .floor) (estimate-at m (l .to)) f-proper to-proper) from-proper rises in
+    let f = floor-rank m law n l e in
+    let f0 : 0 < rank k (l .floor) = f .0 in
+    let f1 : rank k (l .floor) ≤ cost m l = f .1 in
+    before-by (pair-at m (l .from) a) (pair-at m (l .to) b) (λ v. omega arith)
+
+-- no uneven place has a key below k
+abbrev pub Floor : Meaning → List Price → Pair → Type 0
+Floor m gs k = (y : ℕ) → y < places m → (Even m gs y → ⊥) → Upto k (pair m gs y)
+
+-- a chain to x that costs just the lookahead
+record Way (m : Meaning) (gs : List Price) (x : ℕ) : Type 0 where
+  met : List ℕ
+  chain : Chain m x met (lookahead m gs x)
+  rising : (z : ℕ) → Among z met → ahead m gs z ≤ ahead m gs x
+
+module _ (m : Meaning) (law : Lawful m) (gs : List Price) (b : Bounds m gs) (k : Pair) (low : Floor m gs k) where
+  -- below the floor places are even
+  pub even-below : (x v : ℕ) → x < places m → min (stand m gs x) (ahead m gs x) ≤ v → Before (pair-at m x v) k → Even m gs x
+  even-below x v l le h = ⊎-elim (λ (e : stand m gs x ≡ ahead m gs x). even-rank m law gs b x l e)
+      (λ (u : stand m gs x ≡ ahead m gs x → ⊥). let w : Upto k (pair m gs x) = low x l (λ e. u (ap (rank (m .kind)) e)) in absurd (omega arith)) (cases-eq (stand m gs x) (ahead m gs x))
+
+  -- a chain whose key is below the floor bounds the standing of its last place
+  pub reach : {x : ℕ} {ps : List ℕ} {p : Price} → Chain m x ps p → Before (pair-at m x (rank (m .kind) p)) k → stand m gs x ≤ rank (m .kind) p
+  reach begin h =
+      let z : ahead m gs (m .start) ≡ 0 = ahead-start m law gs b in
+      let e : stand m gs (m .start) ≡ ahead m gs (m .start) = ap (rank (m .kind)) (even-below (m .start) (rank (m .kind) (zero-of (m .kind))) (law .start-in) (omega arith) h) in
+      omega arith
+  reach (more {p = p} n l e o c f) h =
+      let s : rank (m .kind) (sum (m .kind) p (l .price)) ≡ plus m (rank (m .kind) p) (cost m l) = link-sum m law n l e p (chain-within m law c) in
+      let lt : rank (m .kind) p < limit m = chain-rank m law c in
+      let first : Before (pair-at m (l .from) (rank (m .kind) p)) (pair-at m (l .to) (rank (m .kind) (sum (m .kind) p (l .price)))) = link-key m law n l e (rank (m .kind) p) (rank (m .kind) (sum (m .kind) p (l .price))) lt (omega arith) in
+      let r : stand m gs (l .from) ≤ rank (m .kind) p = reach c (before-upto (pair-at m (l .from) (rank (m .kind) p)) (pair-at m (l .to) (rank (m .kind) (sum (m .kind) p (l .price)))) k first (or-even h)) in
+      let a : ahead m gs (l .to) ≤ plus m (stand m gs (l .from)) (cost m l) = ahead-below m law gs b n l e in
+      let ev : stand m gs (l .to) ≡ ahead m gs (l .to) = ap (rank (m .kind)) (even-below (l .to) (rank (m .kind) (sum (m .kind) p (l .price))) (link-law m law n l e .to-in) (omega arith) h) in
+      omega arith
+
+  -- a chain whose key is at most the floor bounds the lookahead
+  pub reach-ahead : {x : ℕ} {ps : List ℕ} {p : Price} → Chain m x ps p → Upto (pair-at m x (rank (m .kind) p)) k → ahead m gs x ≤ rank (m .kind) p
+  reach-ahead begin h = let z : ahead m gs (m .start) ≡ 0 = ahead-start m law gs b in omega arith
+  reach-ahead (more {p = p} n l e o c f) h =
+      let s : rank (m .kind) (sum (m .kind) p (l .price)) ≡ plus m (rank (m .kind) p) (cost m l) = link-sum m law n l e p (chain-within m law c) in
+      let lt : rank (m .kind) p < limit m = chain-rank m law c in
+      let first : Before (pair-at m (l .from) (rank (m .kind) p)) (pair-at m (l .to) (rank (m .kind) (sum (m .kind) p (l .price)))) = link-key m law n l e (rank (m .kind) p) (rank (m .kind) (sum (m .kind) p (l .price))) lt (omega arith) in
+      let r : stand m gs (l .from) ≤ rank (m .kind) p = reach c (before-upto (pair-at m (l .from) (rank (m .kind) p)) (pair-at m (l .to) (rank (m .kind) (sum (m .kind) p (l .price)))) k first h) in
+      let a : ahead m gs (l .to) ≤ plus m (stand m gs (l .from)) (cost m l) = ahead-below m law gs b n l e in
+      omega arith
+
+  way-start : (x : ℕ) → x ≡ m .start → Way m gs x
+  way-start x e = rw e (record {
+      met = m .start ∷ [];
+      chain = rw (look-start m gs) begin;
+      rising = λ z. ⊎-elim (λ (p : z ≡ m .start). rw p (omega arith)) (λ (q : ⊥). absurd q)
+    })
+
+  way-more : (n : ℕ) (l : Link) → link-at m n ≡ Some l → lookahead m gs (l .to) ≡ sum (m .kind) (standing-at gs (l .from)) (l .price) → ahead m gs (l .to) < limit m → Even m gs (l .from) → Way m gs (l .from) → Way m gs (l .to)
+  way-more n l i gives op even w =
+      let d : 0 < cost m l = price-rank m law n l i in
+      let v : ahead m gs (l .to) ≡ plus m (stand m gs (l .from)) (cost m l) = ap (rank (m .kind)) gives ∙ over-link m law gs b n l i in
+      let ev : stand m gs (l .from) ≡ ahead m gs (l .from) = ap (rank (m .kind)) even in
+      record {
+        met = l .to ∷ w .met;
+        chain = subst (Chain m (l .to) (l .to ∷ w .met)) (ap (λ (p : Price). sum (m .kind) p (l .price)) (sym even) ∙ sym gives)
+            (more n l i (below-top-is-open (m .kind) (l .price) (omega arith)) (w .chain) (λ a. let r : ahead m gs (l .to) ≤ ahead m gs (l .from) = w .rising (l .to) a in omega arith));
+        rising = λ z. ⊎-elim (λ (p : z ≡ l .to). rw p (omega arith)) (λ (q : Among z (w .met)). let r : ahead m gs z ≤ ahead m gs (l .from) = w .rising z q in omega arith)
+      }
+
+  -- from a link by which an open lookahead at or below the floor comes about: its from place is below the floor, and even
+  pub from-below : (x : ℕ) (y : By m gs x) → ahead m gs x < limit m → Upto (pair-at m x (ahead m gs x)) k → Before (pair-at m (y .link .from) (stand m gs (y .link .from))) k
+  from-below x y op u =
+      let l = y .link in
+      let v : ahead m gs x ≡ plus m (stand m gs (l .from)) (cost m l) = ap (rank (m .kind)) (y .gives) ∙ over-link m law gs b (y .number) l (y .named) in
+      let d : 0 < cost m l = price-rank m law (y .number) l (y .named) in
+      let first : Before (pair-at m (l .from) (stand m gs (l .from))) (pair-at m (l .to) (ahead m gs x)) = link-key m law (y .number) l (y .named) (stand m gs (l .from)) (ahead m gs x) (omega arith) (omega arith) in
+      before-upto (pair-at m (l .from) (stand m gs (l .from))) (pair-at m (l .to) (ahead m gs x)) k first (rw (y .to-is) u)
+
+  pub from-even : (x : ℕ) (y : By m gs x) → ahead m gs x < limit m → Upto (pair-at m x (ahead m gs x)) k → Even m gs (y .link .from)
+  from-even x y op u = even-below (y .link .from) (stand m gs (y .link .from)) (link-law m law (y .number) (y .link) (y .named) .from-in) (omega arith) (from-below x y op u)
+
+  -- following such links back from x one comes to the start
+  back : (n x : ℕ) → ahead m gs x < n → ahead m gs x < limit m → Upto (pair-at m x (ahead m gs x)) k → Way m gs x
+  back zero x lt op u = absurd (omega arith)
+  back (suc n) x lt op u = ⊎-elim (way-start x) (by-link (back n)) (ahead-by m law gs b x op)
+    where
+      by-link : ((y : ℕ) → ahead m gs y < n → ahead m gs y < limit m → Upto (pair-at m y (ahead m gs y)) k → Way m gs y) → By m gs x → Way m gs x
+      by-link ih y =
+          let l = y .link in
+          let d : 0 < cost m l = price-rank m law (y .number) l (y .named) in
+          let v : ahead m gs x ≡ plus m (stand m gs (l .from)) (cost m l) = ap (rank (m .kind)) (y .gives) ∙ over-link m law gs b (y .number) l (y .named) in
+          let even : Even m gs (l .from) = from-even x y op u in
+          let e : stand m gs (l .from) ≡ ahead m gs (l .from) = ap (rank (m .kind)) even in
+          let to : ahead m gs (l .to) ≡ ahead m gs x = ap (ahead m gs) (y .to-is) in
+          subst (Way m gs) (y .to-is) (way-more (y .number) l (y .named) (ap (lookahead m gs) (y .to-is) ∙ y .gives) (omega arith) even
+            (ih (l .from) (omega arith) (omega arith) (subst (λ (v : ℕ). Upto (pair-at m (l .from) v) k) e (or-even (from-below x y op u)))))
+
+  -- at or below the floor, the lookahead is the true distance
+  pub look-true : (x : ℕ) → Upto (pair-at m x (ahead m gs x)) k → True-distance m x (lookahead m gs x)
+  look-true x u = distance-by m law x (lookahead m gs x)
+      (λ ps q c. rank-not-less (m .kind) q (lookahead m gs x) (chain-proper m law c) (look-proper m law gs b x) (⊎-elim
+        (λ (h : rank (m .kind) q < ahead m gs x). let r : ahead m gs x ≤ rank (m .kind) q = reach-ahead c (upto-by (pair-at m x (rank (m .kind) q)) k (λ w. omega arith)) in r)
+        (λ (h : ahead m gs x ≤ rank (m .kind) q). h) (cases-lt (rank (m .kind) q) (ahead m gs x))))
+      (⊎-elim
+        (λ (h : ahead m gs x < limit m). let w : Way m gs x = back (suc (ahead m gs x)) x (omega arith) h u in inl (w .met, w .chain))
+        (λ (h : limit m ≤ ahead m gs x). inr (top-is-closed (m .kind) (lookahead m gs x) (look-proper m law gs b x) h)) (cases-lt (ahead m gs x) (limit m)))
