@@ -3,3 +3,5 @@ pub mod Runs
 pub mod Looks
 pub mod Ranks
 pub mod Reach
+pub mod Steps
+pub mod Rising
