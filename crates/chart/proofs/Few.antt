@@ -1,12 +1,13 @@
--- Distinct numbers below n are at most n.
-use mathlib.Core.Path.{_≡_, refl, sym, ap, _∙_}
+-- Distinct numbers below n are at most n, and so are things that have such numbers.
+use mathlib.Core.Path.{_≡_, refl, sym, ap, subst, _∙_}
 use mathlib.Core.Logic.{_⊎_, inl, inr, ⊎-elim}
 use mathlib.Core.Bool.{Bool, true, false, cond}
-use mathlib.Core.List.{List, [], _∷_}
+use mathlib.Core.List.{List, [], _∷_, map}
 use Prim.Native.Nat.{ℕ, zero, suc, _+_, _≤_, _<_}
 use native.Mathlib.Omega.{arith}
 use lib.Dec.{eqb}
 use lib.ListN.{length}
+use Rattle.std.proofs.shelf.Lists.{length-map}
 use Rattle.std.proofs.shelf.Tests.{cases-bool, cases-eq, cond-false, cond-true, eqb-false, eqb-true}
 use Rattle.chart.specs.Routes.{Among, Distinct}
 
@@ -55,3 +56,22 @@ few (suc n) xs d b =
     let ih : length (without n xs) ≤ n = few n (without n xs) (still-distinct n xs d)
         (λ y i. let t = left n xs y i in let q = b y (t .0) in let r = t .1 in omega arith) in
     omega (arith, one-fewer n xs d)
+
+pub among-map : {A B : Type 0} (f : A → B) (xs : List A) (y : B) → Among y (map f xs) → (x : A) × (Among x xs × (y ≡ f x))
+among-map f [] y i = absurd i
+among-map f (x ∷ xs) y (inl e) = (x, (inl refl, e))
+among-map f (x ∷ xs) y (inr i) = let t = among-map f xs y i in (t .0, (inr (t .1 .0), t .1 .1))
+
+pub map-among : {A B : Type 0} (f : A → B) (xs : List A) (x : A) → Among x xs → Among (f x) (map f xs)
+map-among f [] x i = absurd i
+map-among f (y ∷ xs) x (inl e) = inl (ap f e)
+map-among f (y ∷ xs) x (inr i) = inr (map-among f xs x i)
+
+distinct-map : {A : Type 0} (f : A → ℕ) → ((x y : A) → f x ≡ f y → x ≡ y) → (xs : List A) → Distinct xs → Distinct (map f xs)
+distinct-map f one [] d = tt
+distinct-map f one (x ∷ xs) d = ((λ i. let t = among-map f xs (f x) i in d .0 (subst (λ z. Among z xs) (sym (one x (t .0) (t .1 .1))) (t .1 .0))), distinct-map f one xs (d .1))
+
+pub few-of : {A : Type 0} (f : A → ℕ) → ((x y : A) → f x ≡ f y → x ≡ y) → (n : ℕ) (xs : List A) → Distinct xs → ((x : A) → Among x xs → f x < n) → length xs ≤ n
+few-of f one n xs d b =
+    let h : length (map f xs) ≤ n = few n (map f xs) (distinct-map f one xs d) (λ y i. let t = among-map f xs y i in subst (λ z. z < n) (sym (t .1 .1)) (b (t .0) (t .1 .0))) in
+    omega (arith, length-map xs f)

@@ -5,3 +5,4 @@ pub mod Ranks
 pub mod Reach
 pub mod Steps
 pub mod Rising
+pub mod Repairs
