@@ -6,3 +6,5 @@ pub mod Reach
 pub mod Steps
 pub mod Rising
 pub mod Repairs
+pub mod Moves
+pub mod Traces

@@ -44,10 +44,9 @@ abbrev pub Floor : Meaning → List Price → Pair → Type 0
 Floor m gs k = (y : ℕ) → y < places m → (Even m gs y → ⊥) → Upto k (pair m gs y)
 
 -- a chain to x that costs just the lookahead
-record Way (m : Meaning) (gs : List Price) (x : ℕ) : Type 0 where
-  met : List ℕ
-  chain : Chain m x met (lookahead m gs x)
-  rising : (z : ℕ) → Among z met → ahead m gs z ≤ ahead m gs x
+pub record Way (m : Meaning) (gs : List Price) (x : ℕ) (met : List ℕ) : Type 0 where
+  pub chain : Chain m x met (lookahead m gs x)
+  pub rising : (z : ℕ) → Among z met → ahead m gs z ≤ ahead m gs x
 
 module _ (m : Meaning) (law : Lawful m) (gs : List Price) (b : Bounds m gs) (k : Pair) (low : Floor m gs k) where
   -- below the floor places are even
@@ -81,30 +80,20 @@ module _ (m : Meaning) (law : Lawful m) (gs : List Price) (b : Bounds m gs) (k :
       let a : ahead m gs (l .to) ≤ plus m (stand m gs (l .from)) (cost m l) = ahead-below m law gs b n l e in
       omega arith
 
-  way-start : (x : ℕ) → x ≡ m .start → Way m gs x
-  way-start x e = rw e (record {
-      met = m .start ∷ [];
+  pub way-start : Way m gs (m .start) (m .start ∷ [])
+  way-start = record {
       chain = rw (look-start m gs) begin;
       rising = λ z. ⊎-elim (λ (p : z ≡ m .start). rw p (omega arith)) (λ (q : ⊥). absurd q)
-    })
+    }
 
-  way-more : (n : ℕ) (l : Link) → link-at m n ≡ Some l → lookahead m gs (l .to) ≡ sum (m .kind) (standing-at gs (l .from)) (l .price) → ahead m gs (l .to) < limit m → Even m gs (l .from) → Way m gs (l .from) → Way m gs (l .to)
-  way-more n l i gives op even w =
-      let d : 0 < cost m l = price-rank m law n l i in
-      let v : ahead m gs (l .to) ≡ plus m (stand m gs (l .from)) (cost m l) = ap (rank (m .kind)) gives ∙ over-link m law gs b n l i in
-      let ev : stand m gs (l .from) ≡ ahead m gs (l .from) = ap (rank (m .kind)) even in
-      record {
-        met = l .to ∷ w .met;
-        chain = subst (Chain m (l .to) (l .to ∷ w .met)) (ap (λ (p : Price). sum (m .kind) p (l .price)) (sym even) ∙ sym gives)
-            (more n l i (below-top-is-open (m .kind) (l .price) (omega arith)) (w .chain) (λ a. let r : ahead m gs (l .to) ≤ ahead m gs (l .from) = w .rising (l .to) a in omega arith));
-        rising = λ z. ⊎-elim (λ (p : z ≡ l .to). rw p (omega arith)) (λ (q : Among z (w .met)). let r : ahead m gs z ≤ ahead m gs (l .from) = w .rising z q in omega arith)
-      }
+  pub by-value : (x : ℕ) (y : By m gs x) → ahead m gs x ≡ plus m (stand m gs (y .link .from)) (cost m (y .link))
+  by-value x y = ap (rank (m .kind)) (y .gives) ∙ over-link m law gs b (y .number) (y .link) (y .named)
 
-  -- from a link by which an open lookahead at or below the floor comes about: its from place is below the floor, and even
-  pub from-below : (x : ℕ) (y : By m gs x) → ahead m gs x < limit m → Upto (pair-at m x (ahead m gs x)) k → Before (pair-at m (y .link .from) (stand m gs (y .link .from))) k
+  -- the from place of a link by which an open lookahead at or below the floor comes about is below the floor, and even
+  from-below : (x : ℕ) (y : By m gs x) → ahead m gs x < limit m → Upto (pair-at m x (ahead m gs x)) k → Before (pair-at m (y .link .from) (stand m gs (y .link .from))) k
   from-below x y op u =
       let l = y .link in
-      let v : ahead m gs x ≡ plus m (stand m gs (l .from)) (cost m l) = ap (rank (m .kind)) (y .gives) ∙ over-link m law gs b (y .number) l (y .named) in
+      let v : ahead m gs x ≡ plus m (stand m gs (l .from)) (cost m l) = by-value x y in
       let d : 0 < cost m l = price-rank m law (y .number) l (y .named) in
       let first : Before (pair-at m (l .from) (stand m gs (l .from))) (pair-at m (l .to) (ahead m gs x)) = link-key m law (y .number) l (y .named) (stand m gs (l .from)) (ahead m gs x) (omega arith) (omega arith) in
       before-upto (pair-at m (l .from) (stand m gs (l .from))) (pair-at m (l .to) (ahead m gs x)) k first (rw (y .to-is) u)
@@ -112,21 +101,41 @@ module _ (m : Meaning) (law : Lawful m) (gs : List Price) (b : Bounds m gs) (k :
   pub from-even : (x : ℕ) (y : By m gs x) → ahead m gs x < limit m → Upto (pair-at m x (ahead m gs x)) k → Even m gs (y .link .from)
   from-even x y op u = even-below (y .link .from) (stand m gs (y .link .from)) (link-law m law (y .number) (y .link) (y .named) .from-in) (omega arith) (from-below x y op u)
 
+  pub from-low : (x : ℕ) (y : By m gs x) → ahead m gs x < limit m → Upto (pair-at m x (ahead m gs x)) k → Upto (pair-at m (y .link .from) (ahead m gs (y .link .from))) k
+  from-low x y op u = subst (λ (v : ℕ). Upto (pair-at m (y .link .from) v) k) (ap (rank (m .kind)) (from-even x y op u)) (or-even (from-below x y op u))
+
+  -- and its lookahead is smaller
+  pub from-ahead : (x : ℕ) (y : By m gs x) → ahead m gs x < limit m → Upto (pair-at m x (ahead m gs x)) k → ahead m gs (y .link .from) < ahead m gs x
+  from-ahead x y op u =
+      let v : ahead m gs x ≡ plus m (stand m gs (y .link .from)) (cost m (y .link)) = by-value x y in
+      let e : stand m gs (y .link .from) ≡ ahead m gs (y .link .from) = ap (rank (m .kind)) (from-even x y op u) in
+      let d : 0 < cost m (y .link) = price-rank m law (y .number) (y .link) (y .named) in omega arith
+
+  -- one link more, that by which the lookahead comes about
+  pub way-more : (x : ℕ) (y : By m gs x) → ahead m gs x < limit m → Upto (pair-at m x (ahead m gs x)) k → {ps : List ℕ} → Way m gs (y .link .from) ps → Way m gs x (x ∷ ps)
+  way-more x y op u {ps} w =
+      let l = y .link in
+      let even : Even m gs (l .from) = from-even x y op u in
+      let d : 0 < cost m l = price-rank m law (y .number) l (y .named) in
+      let v : ahead m gs x ≡ plus m (stand m gs (l .from)) (cost m l) = by-value x y in
+      let e : stand m gs (l .from) ≡ ahead m gs (l .from) = ap (rank (m .kind)) even in
+      record {
+        chain = subst (λ (z : ℕ). Chain m z (z ∷ ps) (lookahead m gs x)) (y .to-is)
+            (subst (Chain m (l .to) (l .to ∷ ps)) (ap (λ (p : Price). sum (m .kind) p (l .price)) (sym even) ∙ sym (y .gives))
+            (more (y .number) l (y .named) (below-top-is-open (m .kind) (l .price) (omega arith)) (w .chain)
+              (λ a. let r : ahead m gs (l .to) ≤ ahead m gs (l .from) = w .rising (l .to) a in let to : ahead m gs (l .to) ≡ ahead m gs x = ap (ahead m gs) (y .to-is) in omega arith)));
+        rising = λ z. ⊎-elim (λ (p : z ≡ x). rw p (omega arith)) (λ (q : Among z (ps)). let r : ahead m gs z ≤ ahead m gs (l .from) = w .rising z q in omega arith)
+      }
+
   -- following such links back from x one comes to the start
-  back : (n x : ℕ) → ahead m gs x < n → ahead m gs x < limit m → Upto (pair-at m x (ahead m gs x)) k → Way m gs x
+  back : (n x : ℕ) → ahead m gs x < n → ahead m gs x < limit m → Upto (pair-at m x (ahead m gs x)) k → (ps : List ℕ) × Way m gs x ps
   back zero x lt op u = absurd (omega arith)
-  back (suc n) x lt op u = ⊎-elim (way-start x) (by-link (back n)) (ahead-by m law gs b x op)
+  back (suc n) x lt op u = ⊎-elim (λ (e : x ≡ m .start). (m .start ∷ [], rw e way-start)) (by-link (back n)) (ahead-by m law gs b x op)
     where
-      by-link : ((y : ℕ) → ahead m gs y < n → ahead m gs y < limit m → Upto (pair-at m y (ahead m gs y)) k → Way m gs y) → By m gs x → Way m gs x
+      by-link : ((y : ℕ) → ahead m gs y < n → ahead m gs y < limit m → Upto (pair-at m y (ahead m gs y)) k → (ps : List ℕ) × Way m gs y ps) → By m gs x → (ps : List ℕ) × Way m gs x ps
       by-link ih y =
-          let l = y .link in
-          let d : 0 < cost m l = price-rank m law (y .number) l (y .named) in
-          let v : ahead m gs x ≡ plus m (stand m gs (l .from)) (cost m l) = ap (rank (m .kind)) (y .gives) ∙ over-link m law gs b (y .number) l (y .named) in
-          let even : Even m gs (l .from) = from-even x y op u in
-          let e : stand m gs (l .from) ≡ ahead m gs (l .from) = ap (rank (m .kind)) even in
-          let to : ahead m gs (l .to) ≡ ahead m gs x = ap (ahead m gs) (y .to-is) in
-          subst (Way m gs) (y .to-is) (way-more (y .number) l (y .named) (ap (lookahead m gs) (y .to-is) ∙ y .gives) (omega arith) even
-            (ih (l .from) (omega arith) (omega arith) (subst (λ (v : ℕ). Upto (pair-at m (l .from) v) k) e (or-even (from-below x y op u)))))
+          let f = from-ahead x y op u in
+          let w = ih (y .link .from) (omega arith) (omega arith) (from-low x y op u) in (x ∷ w .0, way-more x y op u (w .1))
 
   -- at or below the floor, the lookahead is the true distance
   pub look-true : (x : ℕ) → Upto (pair-at m x (ahead m gs x)) k → True-distance m x (lookahead m gs x)
@@ -135,5 +144,5 @@ module _ (m : Meaning) (law : Lawful m) (gs : List Price) (b : Bounds m gs) (k :
         (λ (h : rank (m .kind) q < ahead m gs x). let r : ahead m gs x ≤ rank (m .kind) q = reach-ahead c (upto-by (pair-at m x (rank (m .kind) q)) k (λ w. omega arith)) in r)
         (λ (h : ahead m gs x ≤ rank (m .kind) q). h) (cases-lt (rank (m .kind) q) (ahead m gs x))))
       (⊎-elim
-        (λ (h : ahead m gs x < limit m). let w : Way m gs x = back (suc (ahead m gs x)) x (omega arith) h u in inl (w .met, w .chain))
+        (λ (h : ahead m gs x < limit m). let w = back (suc (ahead m gs x)) x (omega arith) h u in inl (w .0, w .1 .chain))
         (λ (h : limit m ≤ ahead m gs x). inr (top-is-closed (m .kind) (lookahead m gs x) (look-proper m law gs b x) h)) (cases-lt (ahead m gs x) (limit m)))

@@ -2,12 +2,13 @@
 use mathlib.Core.Path.{_≡_}
 use mathlib.Core.Bool.{Bool, true, false, cond}
 use mathlib.Core.List.{List, [], _∷_, reverse}
-use Prim.Native.Nat.{ℕ, zero, suc}
+use Prim.Native.Nat.{ℕ, zero, suc, _≤_}
 use lib.Dec.{eqb, ltb}
 use Rattle.rows.specs.Rows.{Kind, Price, closed, is-open, less, sum}
 use Rattle.rows.specs.Keys.{in-turn}
-use Rattle.chart.specs.Meaning.{Link, Meaning, places}
+use Rattle.chart.specs.Meaning.{Link, Meaning, link-at, places}
 use Rattle.chart.specs.Questions.{leads-into}
+use Rattle.chart.specs.Routes.{True-distance}
 use Rattle.std.specs.declared.option.Option.{Option}
 use Rattle.std.specs.declared.option.Option.the-variants.{Some, None}
 use Rattle.lifelong.specs.Standings.{standing-at, through}
@@ -69,3 +70,24 @@ traced (Some ps) = shows (reverse ps)
 -- where the goal's standing is closed there is none to show; else back from the goal, with as many moves as places
 abbrev pub trace : Meaning → List Price → Traced
 trace m gs = cond (is-open (standing-at gs (m .goal))) (traced (walk m gs (places m) (m .goal))) none
+
+-- The same by true distances, which no standing enters.
+
+-- y is the from place of least true distance plus price over the links into x, of equals the lowest number
+pub record True-move (m : Meaning) (x y : ℕ) : Type 0 where
+  pub number : ℕ
+  pub link : Link
+  pub named : link-at m number ≡ Some link
+  pub from-is : link .from ≡ y
+  pub to-is : link .to ≡ x
+  pub far : Price
+  pub is-far : True-distance m y far
+  pub least : (n : ℕ) (l : Link) (p : Price) → link-at m n ≡ Some l → l .to ≡ x → True-distance m (l .from) p →
+      less (sum (m .kind) p (l .price)) (sum (m .kind) far (link .price)) ≡ false
+  pub lowest : (n : ℕ) (l : Link) (p : Price) → link-at m n ≡ Some l → l .to ≡ x → True-distance m (l .from) p →
+      sum (m .kind) p (l .price) ≡ sum (m .kind) far (link .price) → y ≤ l .from
+
+-- the places from x back to the start by such moves, x first
+pub data True-trace (m : Meaning) : ℕ → List ℕ → Type 0 where
+  arrived : True-trace m (m .start) (m .start ∷ [])
+  moved : {y : ℕ} {ps : List ℕ} (x : ℕ) → (x ≡ m .start → ⊥) → True-move m x y → True-trace m y ps → True-trace m x (x ∷ ps)
