@@ -7,27 +7,31 @@ use Prim.Native.Nat.{ℕ, zero, suc, _+_, _≤_, _<_, min}
 use native.Mathlib.Omega.{arith}
 use lib.Dec.{eqb}
 use lib.ListN.{length}
+use Rattle.std.proofs.shelf.Lists.{length-reverse, reverse-reverse}
 use Rattle.std.proofs.shelf.Tests.{both-ways, cases-bool, cases-eq, cases-lt, cond-false, cond-true, eq-eqb, ne-eqb}
-use Rattle.rows.specs.Rows.{Price, Proper, closed, is-open, less, sum}
+use Rattle.rows.specs.Rows.{Price, Proper, closed, is-open, less, open-at, sum}
 use Rattle.rows.proofs.Order.{less-self, less-total}
 use Rattle.rows.proofs.Sums.{sum-proper}
 use Rattle.rows.proofs.Numbers.{below-top-is-open, less-rank, rank, rank-closed, rank-not-less, rank-open, rank-same}
 use Rattle.chart.specs.Lawful.{Lawful}
 use Rattle.chart.specs.Meaning.{Link, Meaning, link-at, places}
-use Rattle.chart.specs.Routes.{Chain, True-distance}
-use Rattle.chart.proofs.Chains.{chain-few, chain-in, distance-within}
+use Rattle.chart.specs.Routes.{Chain, No-route, True-distance}
+use Rattle.chart.proofs.Chains.{chain-few, closed-distance, distance-closed, distance-within, one-distance}
 use Rattle.chart.proofs.Limits.{link-law, link-sum, low-proper, price-proper}
+use Rattle.chart.proofs.Prices.{least-price}
 use Rattle.std.specs.declared.option.Option.{Option}
 use Rattle.std.specs.declared.option.Option.the-variants.{Some, None}
 use Rattle.lifelong.specs.Standings.{lookahead, standing-at}
-use Rattle.lifelong.specs.Step.{Even, Settled}
+use Rattle.lifelong.specs.Step.{Even, Settled, settled}
 use Rattle.lifelong.specs.Bounds.{Bounds}
-use Rattle.lifelong.specs.Trace.{Move, True-move, True-trace, arrived, move, moved, moving, onto, walk}
+use Rattle.lifelong.specs.Shown.{Cheapest, One-trace, One-true-trace}
+use Rattle.lifelong.specs.Trace.{Move, True-move, True-trace, arrived, move, moved, moving, none, onto, shows, trace, traced, walk}
 use Rattle.lifelong.proofs.Looks.{By, look-below, look-proper, stand-proper}
 use Rattle.lifelong.proofs.Moves.{Nearest, move-of, no-move, not-nearer, the-move}
 use Rattle.lifelong.proofs.Ranks.{Before, Pair, Upto, ahead, ahead-below, ahead-by, before-upto, cost, limit, over-link, pair, pair-at, plus, stand, upto-by}
 use Rattle.lifelong.proofs.Reach.{Floor, Way, by-value, even-below, from-ahead, from-even, from-low, link-key, look-true, reach, way-more, way-start}
-use Rattle.lifelong.proofs.Steps.{settled-floor}
+use Rattle.lifelong.proofs.Picks.{settled-is}
+use Rattle.lifelong.proofs.Steps.{settled-floor, settled-true}
 
 -- the walk, move by move
 pub data Walked (m : Meaning) (gs : List Price) : ℕ → List ℕ → Type 0 where
@@ -54,6 +58,10 @@ module _ (m : Meaning) (gs : List Price) where
   walked-walk (suc n) (back {ps = ps} x a u e o w) l =
       walk-away n x u ∙ ap (λ z. moving x z (λ y. walk m gs n y)) e
       ∙ cond-true (is-open (a .cost)) (onto x (walk m gs n (a .from))) None o ∙ ap (onto x) (walked-walk n w (omega arith))
+
+not-open : (p : Price) → is-open p ≡ false → p ≡ closed
+not-open closed e = refl
+not-open (open-at xs) e = absurd (both-ways true e refl)
 
 -- a place that is even and open, with its key at most k
 pub record Firm (m : Meaning) (gs : List Price) (k : Pair) (x : ℕ) : Type 0 where
@@ -175,3 +183,89 @@ module _ (m : Meaning) (law : Lawful m) (gs : List Price) (b : Bounds m gs) (k :
             walked = back x (h .taken) u (h .is) (ap is-open (h .cost-is) ∙ below-top-is-open (m .kind) (lookahead m gs x) (f .opens)) (subst (λ (z : ℕ). Walked m gs z (s .met)) (h .from-is) (s .walked));
             true-trace = moved x u (true-move x f h) (subst (λ (z : ℕ). True-trace m z (s .met)) (h .from-is) (s .true-trace))
           }
+
+module _ (m : Meaning) (law : Lawful m) (gs : List Price) (b : Bounds m gs) (t : settled m gs ≡ true) where
+  settled-firm : is-open (standing-at gs (m .goal)) ≡ true → Firm m gs (pair m gs (m .goal)) (m .goal)
+  settled-firm o =
+      let s = settled-is m gs t in
+      let e : stand m gs (m .goal) ≡ ahead m gs (m .goal) = ap (rank (m .kind)) (s .even) in
+      record {
+        even = s .even;
+        opens = omega (arith, rank-open (m .kind) (standing-at gs (m .goal)) (stand-proper m law gs b (m .goal) (law .goal-in)) o);
+        low = upto-by (pair-at m (m .goal) (ahead m gs (m .goal))) (pair m gs (m .goal)) (λ w. omega arith)
+      }
+
+  pub settled-distance : True-distance m (m .goal) (standing-at gs (m .goal))
+  settled-distance = settled-true m law gs b (settled-is m gs t)
+
+  pub shows-cheapest : is-open (standing-at gs (m .goal)) ≡ true → (ps : List ℕ) × Cheapest m gs ps
+  shows-cheapest o =
+      let s = settled-is m gs t in
+      let k = pair m gs (m .goal) in
+      let w : Shown m law gs b k (settled-floor m law gs b s) (m .goal) = shown m law gs b k (settled-floor m law gs b s) (suc (ahead m gs (m .goal))) (m .goal) (omega arith) (settled-firm o) in
+      let c : Chain m (m .goal) (w .met) (standing-at gs (m .goal)) = subst (Chain m (m .goal) (w .met)) (sym (s .even)) (w .way .chain) in
+      let f : length (w .met) ≤ places m = chain-few m law c in
+      let r : reverse (reverse (w .met)) ≡ w .met = reverse-reverse (w .met) in
+      (reverse (w .met), record {
+        shown = cond-true (is-open (standing-at gs (m .goal))) (traced (walk m gs (places m) (m .goal))) none o ∙ ap traced (walked-walk m gs (places m) (w .walked) (omega arith));
+        moves = omega (arith, length-reverse (w .met));
+        route = subst (λ ps. Chain m (m .goal) ps (standing-at gs (m .goal))) (sym r) c;
+        as-places = least-price m law c settled-distance;
+        distance = settled-distance;
+        least = λ qs q d. settled-distance .least (reverse qs) q d;
+        by-distances = subst (True-trace m (m .goal)) (sym r) (w .true-trace)
+      })
+
+  pub closed-no-route : standing-at gs (m .goal) ≡ closed → No-route m
+  closed-no-route e ps p c = distance-closed m law (m .goal) (standing-at gs (m .goal)) settled-distance e (reverse ps) p c
+
+  pub no-route-closed : No-route m → standing-at gs (m .goal) ≡ closed
+  no-route-closed h = closed-distance m law (m .goal) (standing-at gs (m .goal)) settled-distance
+      (λ ps q c. h (reverse ps) q (subst (λ xs. Chain m (m .goal) xs q) (sym (reverse-reverse ps)) c))
+
+  pub closed-shows-none : standing-at gs (m .goal) ≡ closed → trace m gs ≡ none
+  closed-shows-none e = ap (λ p. cond (is-open p) (traced (walk m gs (places m) (m .goal))) none) e
+
+  -- an open goal has a route to show
+  none-is-closed : trace m gs ≡ none → standing-at gs (m .goal) ≡ closed
+  none-is-closed e = ⊎-elim
+      (λ (o : is-open (standing-at gs (m .goal)) ≡ true). let z : _≡_ {A = ℕ} 0 1 = cc (shows-cheapest o .1 .shown) in absurd (omega arith))
+      (λ (o : is-open (standing-at gs (m .goal)) ≡ false). not-open (standing-at gs (m .goal)) o) (cases-bool (is-open (standing-at gs (m .goal))))
+
+  pub none-no-route : (trace m gs ≡ none → No-route m) × (No-route m → trace m gs ≡ none)
+  none-no-route = ((λ e. closed-no-route (none-is-closed e)), (λ h. closed-shows-none (no-route-closed h)))
+
+-- the route is a function of the chart alone
+
+one-move : (m : Meaning) (x y z : ℕ) → True-move m x y → True-move m x z → y ≡ z
+one-move m x y z p q =
+    let dq : True-distance m (q .link .from) (q .far) = subst (λ (w : ℕ). True-distance m w (q .far)) (sym (q .from-is)) (q .is-far) in
+    let dp : True-distance m (p .link .from) (p .far) = subst (λ (w : ℕ). True-distance m w (p .far)) (sym (p .from-is)) (p .is-far) in
+    let a = p .least (q .number) (q .link) (q .far) (q .named) (q .to-is) dq in
+    let c = q .least (p .number) (p .link) (p .far) (p .named) (p .to-is) dp in
+    let same : sum (m .kind) (q .far) (q .link .price) ≡ sum (m .kind) (p .far) (p .link .price) = less-total (sum (m .kind) (q .far) (q .link .price)) (sum (m .kind) (p .far) (p .link .price)) a c in
+    omega (arith, p .lowest (q .number) (q .link) (q .far) (q .named) (q .to-is) dq same, q .lowest (p .number) (p .link) (p .far) (p .named) (p .to-is) dp (sym same), p .from-is, q .from-is)
+
+same-trace : (m : Meaning) {x y : ℕ} {ps qs : List ℕ} → x ≡ y → True-trace m x ps → True-trace m y qs → ps ≡ qs
+same-trace m e arrived arrived = refl
+same-trace m e arrived (moved y u p t) = absurd (u (sym e))
+same-trace m e (moved x u p t) arrived = absurd (u e)
+same-trace m e (moved {y = y} {ps = ps} x u p t) (moved {y = z} {ps = qs} w v q s) =
+    let r : ps ≡ qs = same-trace m (one-move m x y z p (subst (λ (c : ℕ). True-move m c z) (sym e) q)) t s in cc
+
+pub one-true-trace : One-true-trace
+one-true-trace m law x ps qs p q = same-trace m refl p q
+
+pub one-trace : One-trace
+one-trace m law gs hs bg bh tg th =
+    let e : standing-at gs (m .goal) ≡ standing-at hs (m .goal) = one-distance m law (m .goal) (standing-at gs (m .goal)) (standing-at hs (m .goal)) (settled-distance m law gs bg tg) (settled-distance m law hs bh th) in
+    ⊎-elim
+    (λ (o : is-open (standing-at gs (m .goal)) ≡ true).
+      let p = shows-cheapest m law gs bg tg o in
+      let q = shows-cheapest m law hs bh th (ap is-open (sym e) ∙ o) in
+      let r : reverse (p .0) ≡ reverse (q .0) = same-trace m refl (p .1 .by-distances) (q .1 .by-distances) in
+      p .1 .shown ∙ ap shows (sym (reverse-reverse (p .0)) ∙ ap reverse r ∙ reverse-reverse (q .0)) ∙ sym (q .1 .shown))
+    (λ (o : is-open (standing-at gs (m .goal)) ≡ false).
+      let c = not-open (standing-at gs (m .goal)) o in
+      closed-shows-none m law gs bg tg c ∙ sym (closed-shows-none m law hs bh th (sym e ∙ c)))
+    (cases-bool (is-open (standing-at gs (m .goal))))

@@ -3,3 +3,5 @@ pub mod Step
 pub mod Run
 pub mod Trace
 pub mod Bounds
+pub mod Theorems
+pub mod Shown
