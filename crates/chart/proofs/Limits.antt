@@ -149,6 +149,9 @@ module _ (m : Meaning) (law : Lawful m) where
   pub estimate-proper : (x : ℕ) → x < places m → Proper (m .kind) (estimate-at m x)
   estimate-proper x l = estimate-by (estimate-at m x) (law .estimates-law x l) .0
 
+  pub estimate-open : (x : ℕ) → x < places m → is-open (estimate-at m x) ≡ true
+  estimate-open x l = estimate-by (estimate-at m x) (law .estimates-law x l) .1
+
   -- links
   module _ (n : ℕ) (l : Link) (e : link-at m n ≡ Some l) where
     pub link-law : Lawful-link (m .kind) (places m) (m .height) l

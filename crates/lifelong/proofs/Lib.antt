@@ -8,3 +8,6 @@ pub mod Rising
 pub mod Repairs
 pub mod Moves
 pub mod Traces
+pub mod Limits
+pub mod Distances
+pub mod Witness

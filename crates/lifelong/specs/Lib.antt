@@ -5,3 +5,5 @@ pub mod Trace
 pub mod Bounds
 pub mod Theorems
 pub mod Shown
+pub mod Charts
+pub mod Examples
