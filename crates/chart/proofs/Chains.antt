@@ -14,8 +14,8 @@ use Rattle.chart.specs.Lawful.{Lawful, Lawful-link}
 use Rattle.chart.specs.Limits.{Within}
 use Rattle.chart.specs.Meaning.{Link, Meaning, link-at, places}
 use Rattle.chart.specs.Routes.{Among, Chain, Distinct, True-distance, begin, more}
-use Rattle.chart.proofs.Few.{few}
-use Rattle.chart.proofs.Limits.{clear-link, link-law, link-sum, low-proper, price-within, within-more, within-sum, within-zero, zero-proper}
+use Rattle.chart.proofs.Pigeonhole.{pigeonhole}
+use Rattle.chart.proofs.Limits.{uncapped-link, link-law, link-sum, low-proper, price-within, within-more, within-sum, within-zero, zero-proper}
 use Rattle.std.specs.declared.option.Option.the-variants.{Some}
 
 -- its last place stands first
@@ -43,7 +43,7 @@ module _ (m : Meaning) (law : Lawful m) where
 
   -- it meets no more places than the chart has
   pub chain-few : {x : ℕ} {ps : List ℕ} {p : Price} → Chain m x ps p → length ps ≤ places m
-  chain-few {ps = ps} c = few (places m) ps (chain-distinct m c) (places-in c)
+  chain-few {ps = ps} c = pigeonhole (places m) ps (chain-distinct m c) (places-in c)
 
   record Counted (ps : List ℕ) (p : Price) : Type 0 where
     links : ℕ
@@ -68,7 +68,7 @@ module _ (m : Meaning) (law : Lawful m) where
   -- and an open price
   pub chain-open : {x : ℕ} {ps : List ℕ} {p : Price} → Chain m x ps p → is-open p ≡ true
   chain-open begin = refl
-  chain-open (more {p = p} n l e o c f) = clear-link m law p (l .price) (chain-within c) (price-within m law n l e) (chain-open c) o
+  chain-open (more {p = p} n l e o c f) = uncapped-link m law p (l .price) (chain-within c) (price-within m law n l e) (chain-open c) o
 
   pub chain-rank : {x : ℕ} {ps : List ℕ} {p : Price} → Chain m x ps p → rank (m .kind) p < top (m .kind)
   chain-rank {p = p} c = rank-open (m .kind) p (chain-proper c) (chain-open c)

@@ -1,4 +1,4 @@
-pub mod Few
+pub mod Pigeonhole
 pub mod Least
 pub mod Limits
 pub mod Chains

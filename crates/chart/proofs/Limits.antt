@@ -10,7 +10,7 @@ use lib.ListN.{length, replicate}
 use Rattle.std.proofs.shelf.Tests.{and-from, and-parts, both-ways, cond-true, leb-true, lt-ltb}
 use Rattle.rows.specs.Rows.{Kind, Price, Proper, add-rows, all-below, at-most, capped, closed, is-open, less, linkable, open-at, smaller, sum, zero-of}
 use Rattle.rows.proofs.Sums.{add-rows-length, row-made}
-use Rattle.rows.proofs.Numbers.{Clear, less-rank, not-less-rank, rank, rank-sum, rank-zero, top}
+use Rattle.rows.proofs.Numbers.{Uncapped, less-rank, not-less-rank, rank, rank-sum, rank-zero, top}
 use Rattle.chart.specs.Lawful.{Estimate-law, Lawful, Lawful-link, Link-law, Room}
 use Rattle.chart.specs.Limits.{Each-within, Within}
 use Rattle.chart.specs.Meaning.{Link, Meaning, estimate-at, link-at, places}
@@ -120,27 +120,27 @@ module _ (m : Meaning) (law : Lawful m) where
   pub zero-proper : Proper (m .kind) (zero-of (m .kind))
   zero-proper = within-proper (zero-of (m .kind)) (within-zero 4096)
 
-  clear-by : (e p q : Price) → Estimate-law (m .kind) e → Within (m .kind) 4095 p → Within (m .kind) 1 q → Clear (m .kind) p q
-  clear-by closed p q r h j a b = absurd r
-  clear-by (open-at es) closed q r h j a b = absurd (both-ways false refl a)
-  clear-by (open-at es) (open-at xs) closed r h j a b = absurd (both-ways false refl b)
-  clear-by (open-at es) (open-at xs) (open-at ys) r h j a b =
+  uncapped-by : (e p q : Price) → Estimate-law (m .kind) e → Within (m .kind) 4095 p → Within (m .kind) 1 q → Uncapped (m .kind) p q
+  uncapped-by closed p q r h j a b = absurd r
+  uncapped-by (open-at es) closed q r h j a b = absurd (both-ways false refl a)
+  uncapped-by (open-at es) (open-at xs) closed r h j a b = absurd (both-ways false refl b)
+  uncapped-by (open-at es) (open-at xs) (open-at ys) r h j a b =
       ap is-open (cond-true (all-below (m .kind .ceiling) (add-rows xs ys)) (open-at (add-rows xs ys)) closed
         (room-below (m .kind .ceiling) (m .kind .largest) es (add-rows xs ys) r (each-sum 4095 (m .kind .largest) xs ys h j)))
 
   -- a link more does not reach the ceiling
-  pub clear-link : (p q : Price) → Within (m .kind) 4095 p → Within (m .kind) 1 q → Clear (m .kind) p q
-  clear-link p q h j = clear-by (estimate-at m (m .start)) p q (law .estimates-law (m .start) (law .start-in)) h j
+  pub uncapped-link : (p q : Price) → Within (m .kind) 4095 p → Within (m .kind) 1 q → Uncapped (m .kind) p q
+  uncapped-link p q h j = uncapped-by (estimate-at m (m .start)) p q (law .estimates-law (m .start) (law .start-in)) h j
 
-  clear-with : (e p : Price) → Estimate-law (m .kind) e → Within (m .kind) 4096 p → Clear (m .kind) p e
-  clear-with closed p r h a b = absurd r
-  clear-with (open-at es) closed r h a b = absurd (both-ways false refl a)
-  clear-with (open-at es) (open-at xs) r h a b =
+  uncapped-with : (e p : Price) → Estimate-law (m .kind) e → Within (m .kind) 4096 p → Uncapped (m .kind) p e
+  uncapped-with closed p r h a b = absurd r
+  uncapped-with (open-at es) closed r h a b = absurd (both-ways false refl a)
+  uncapped-with (open-at es) (open-at xs) r h a b =
       ap is-open (cond-true (all-below (m .kind .ceiling) (add-rows xs es)) (open-at (add-rows xs es)) closed (room-sum (m .kind .ceiling) (m .kind .largest) es xs r h))
 
   -- nor does an estimate
-  pub clear-estimate : (p : Price) (x : ℕ) → x < places m → Within (m .kind) 4096 p → Clear (m .kind) p (estimate-at m x)
-  clear-estimate p x l h = clear-with (estimate-at m x) p (law .estimates-law x l) h
+  pub uncapped-estimate : (p : Price) (x : ℕ) → x < places m → Within (m .kind) 4096 p → Uncapped (m .kind) p (estimate-at m x)
+  uncapped-estimate p x l h = uncapped-with (estimate-at m x) p (law .estimates-law x l) h
 
   estimate-by : (e : Price) → Estimate-law (m .kind) e → Proper (m .kind) e × (is-open e ≡ true)
   estimate-by closed r = absurd r
@@ -183,4 +183,4 @@ module _ (m : Meaning) (law : Lawful m) where
 
     -- the sum with a price that has room for one link more
     pub link-sum : (p : Price) → Within (m .kind) 4095 p → rank (m .kind) (sum (m .kind) p (l .price)) ≡ min (rank (m .kind) p + rank (m .kind) (l .price)) (top (m .kind))
-    link-sum p h = rank-sum (m .kind) p (l .price) (low-proper p h) price-proper (clear-link p (l .price) h price-within)
+    link-sum p h = rank-sum (m .kind) p (l .price) (low-proper p h) price-proper (uncapped-link p (l .price) h price-within)

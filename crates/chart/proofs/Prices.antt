@@ -70,17 +70,17 @@ module _ (m : Meaning) (law : Lawful m) where
       ∙ ap (λ xs. sum (m .kind) (places-price m xs) (cheapest m a b)) (sym (reverseAux-eq ps (a ∷ [])))
 
   -- the chain over the same places, by the cheapest links
-  record Cheap (x : ℕ) (ps : List ℕ) (p : Price) : Type 0 where
+  record By-cheapest (x : ℕ) (ps : List ℕ) (p : Price) : Type 0 where
     chain : Chain m x ps (places-price m (reverse ps))
     below : rank (m .kind) (places-price m (reverse ps)) ≤ rank (m .kind) p
 
-  cheap-begin : Cheap (m .start) (m .start ∷ []) (zero-of (m .kind))
+  by-cheapest-begin : By-cheapest (m .start) (m .start ∷ []) (zero-of (m .kind))
   unfolding price-along
-  cheap-begin = record { chain = begin; below = omega arith }
+  by-cheapest-begin = record { chain = begin; below = omega arith }
 
-  cheap-more : (n : ℕ) (l : Link) → link-at m n ≡ Some l → is-open (l .price) ≡ true → (ps : List ℕ) (p : Price) → Chain m (l .from) ps p → (Among (l .to) ps → ⊥) →
-      Cheap (l .from) ps p → Cheap (l .to) (l .to ∷ ps) (sum (m .kind) p (l .price))
-  cheap-more n l e o ps p c f h =
+  by-cheapest-more : (n : ℕ) (l : Link) → link-at m n ≡ Some l → is-open (l .price) ≡ true → (ps : List ℕ) (p : Price) → Chain m (l .from) ps p → (Among (l .to) ps → ⊥) →
+      By-cheapest (l .from) ps p → By-cheapest (l .to) (l .to ∷ ps) (sum (m .kind) p (l .price))
+  by-cheapest-more n l e o ps p c f h =
       let a = l .from in
       let b = l .to in
       let q = places-price m (reverse ps) in
@@ -104,13 +104,13 @@ module _ (m : Meaning) (law : Lawful m) where
       let b1 = h .below in
       record { chain = subst (Chain m b (b ∷ ps)) same moved; below = omega arith }
 
-  cheap : {x : ℕ} {ps : List ℕ} {p : Price} → Chain m x ps p → Cheap x ps p
-  cheap begin = cheap-begin
-  cheap (more {ps = ps} {p = p} n l e o c f) = cheap-more n l e o ps p c f (cheap c)
+  by-cheapest : {x : ℕ} {ps : List ℕ} {p : Price} → Chain m x ps p → By-cheapest x ps p
+  by-cheapest begin = by-cheapest-begin
+  by-cheapest (more {ps = ps} {p = p} n l e o c f) = by-cheapest-more n l e o ps p c f (by-cheapest c)
 
   -- a chain that has the true distance has it as a list of places too
   pub least-price : {x : ℕ} {ps : List ℕ} {p : Price} → Chain m x ps p → True-distance m x p → places-price m (reverse ps) ≡ p
   least-price {ps = ps} {p = p} c d =
-      let h = cheap c in
+      let h = by-cheapest c in
       let q = places-price m (reverse ps) in
       less-total q p (d .least ps q (h .chain)) (rank-not-less (m .kind) p q (chain-proper m law c) (chain-proper m law (h .chain)) (h .below))

@@ -1,6 +1,6 @@
-pub mod Picks
+pub mod Agreement
 pub mod Runs
-pub mod Looks
+pub mod Lookaheads
 pub mod Ranks
 pub mod Reach
 pub mod Steps

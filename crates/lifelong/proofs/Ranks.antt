@@ -14,12 +14,12 @@ use Rattle.rows.proofs.Sums.{sum-proper}
 use Rattle.rows.proofs.Numbers.{below-top-is-open, less-rank, not-less-rank, rank, rank-capped, rank-less, rank-not-less, rank-same, rank-smaller, rank-sum, rank-zero, smaller-proper, top}
 use Rattle.chart.specs.Lawful.{Lawful}
 use Rattle.chart.specs.Meaning.{Link, Meaning, estimate-at, link-at, places}
-use Rattle.chart.proofs.Limits.{clear-estimate, estimate-proper, link-law, link-sum, price-proper}
+use Rattle.chart.proofs.Limits.{uncapped-estimate, estimate-proper, link-law, link-sum, price-proper}
 use Rattle.std.specs.declared.option.Option.the-variants.{Some}
 use Rattle.lifelong.specs.Standings.{key, lookahead, standing-at}
 use Rattle.lifelong.specs.Step.{Even}
 use Rattle.lifelong.specs.Bounds.{Bounds}
-use Rattle.lifelong.proofs.Looks.{By, look-below, look-by, look-proper, look-start, own-within, stand-proper}
+use Rattle.lifelong.proofs.Lookaheads.{By, look-below, look-by, look-proper, look-start, own-within, stand-proper}
 
 abbrev pub stand : Meaning → List Price → ℕ → ℕ
 stand m gs x = rank (m .kind) (standing-at gs x)
@@ -27,8 +27,8 @@ stand m gs x = rank (m .kind) (standing-at gs x)
 abbrev pub ahead : Meaning → List Price → ℕ → ℕ
 ahead m gs x = rank (m .kind) (lookahead m gs x)
 
-abbrev pub hint : Meaning → ℕ → ℕ
-hint m x = rank (m .kind) (estimate-at m x)
+abbrev pub heuristic : Meaning → ℕ → ℕ
+heuristic m x = rank (m .kind) (estimate-at m x)
 
 abbrev pub cost : Meaning → Link → ℕ
 cost m l = rank (m .kind) (l .price)
@@ -47,7 +47,7 @@ pub record Pair : Type 0 where
 
 -- the key that place x has where the smaller of its two prices is v
 abbrev pub pair-at : Meaning → ℕ → ℕ → Pair
-pair-at m x v = record { whole = plus m v (hint m x); own = v }
+pair-at m x v = record { whole = plus m v (heuristic m x); own = v }
 
 abbrev pub pair : Meaning → List Price → ℕ → Pair
 pair m gs x = pair-at m x (min (stand m gs x) (ahead m gs x))
@@ -142,7 +142,7 @@ module _ (m : Meaning) (law : Lawful m) (gs : List Price) (b : Bounds m gs) wher
       let r : rank (m .kind) (smaller s a) ≡ min (stand m gs x) (ahead m gs x) = rank-smaller (m .kind) s a sp ap′ in
       let p = smaller-proper (m .kind) s a sp ap′ in
       record {
-        whole = rank-sum (m .kind) (smaller s a) (estimate-at m x) p (estimate-proper m law x l) (clear-estimate m law (smaller s a) x l (own-within m law gs b x l)) ∙ ap (λ (v : ℕ). plus m v (hint m x)) r;
+        whole = rank-sum (m .kind) (smaller s a) (estimate-at m x) p (estimate-proper m law x l) (uncapped-estimate m law (smaller s a) x l (own-within m law gs b x l)) ∙ ap (λ (v : ℕ). plus m v (heuristic m x)) r;
         own = r;
         whole-proper = sum-proper (m .kind) (smaller s a) (estimate-at m x) p (estimate-proper m law x l);
         own-proper = p

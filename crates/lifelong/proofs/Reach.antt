@@ -13,13 +13,13 @@ use Rattle.chart.specs.Lawful.{Consistent, Lawful}
 use Rattle.chart.specs.Meaning.{Link, Meaning, estimate-at, link-at, places}
 use Rattle.chart.specs.Routes.{Among, Chain, True-distance, begin, more}
 use Rattle.chart.proofs.Chains.{chain-in, chain-proper, chain-rank, chain-within, distance-by}
-use Rattle.chart.proofs.Limits.{clear-estimate, estimate-proper, floor-proper, floor-rank, floor-within, link-law, link-sum, price-rank, within-more}
+use Rattle.chart.proofs.Limits.{uncapped-estimate, estimate-proper, floor-proper, floor-rank, floor-within, link-law, link-sum, price-rank, within-more}
 use Rattle.std.specs.declared.option.Option.the-variants.{Some}
 use Rattle.lifelong.specs.Standings.{lookahead, standing-at}
 use Rattle.lifelong.specs.Step.{Even}
 use Rattle.lifelong.specs.Bounds.{Bounds}
-use Rattle.lifelong.proofs.Looks.{By, look-proper, look-start}
-use Rattle.lifelong.proofs.Ranks.{Before, Pair, Upto, ahead, ahead-below, ahead-by, ahead-capped, ahead-start, before-by, before-upto, cost, even-rank, hint, limit, or-even, over-link, pair, pair-at, plus, stand, upto-by}
+use Rattle.lifelong.proofs.Lookaheads.{By, look-proper, look-start}
+use Rattle.lifelong.proofs.Ranks.{Before, Pair, Upto, ahead, ahead-below, ahead-by, ahead-capped, ahead-start, before-by, before-upto, cost, even-rank, heuristic, limit, or-even, over-link, pair, pair-at, plus, stand, upto-by}
 
 -- Along a link keys rise: the one place where the law of estimates is used.
 pub link-key : (m : Meaning) → Lawful m → (n : ℕ) (l : Link) → link-at m n ≡ Some l → (a b : ℕ) → a < limit m → plus m a (cost m l) ≤ b → Before (pair-at m (l .from) a) (pair-at m (l .to) b)
@@ -30,9 +30,9 @@ link-key m law n l e a b lt le =
     let to-proper = estimate-proper m law (l .to) (w .to-in) in
     let f-proper = floor-proper m law n l e in
     let rises : less (sum k (l .floor) (estimate-at m (l .to))) (estimate-at m (l .from)) ≡ false = subst (Consistent m) e (law .consistent n) in
-    let s : rank k (sum k (l .floor) (estimate-at m (l .to))) ≡ plus m (rank k (l .floor)) (hint m (l .to)) =
-        rank-sum k (l .floor) (estimate-at m (l .to)) f-proper to-proper (clear-estimate m law (l .floor) (l .to) (w .to-in) (within-more k 1 4096 (l .floor) (omega arith) (floor-within m law n l e))) in
-    let h : hint m (l .from) ≤ rank k (sum k (l .floor) (estimate-at m (l .to))) =
+    let s : rank k (sum k (l .floor) (estimate-at m (l .to))) ≡ plus m (rank k (l .floor)) (heuristic m (l .to)) =
+        rank-sum k (l .floor) (estimate-at m (l .to)) f-proper to-proper (uncapped-estimate m law (l .floor) (l .to) (w .to-in) (within-more k 1 4096 (l .floor) (omega arith) (floor-within m law n l e))) in
+    let h : heuristic m (l .from) ≤ rank k (sum k (l .floor) (estimate-at m (l .to))) =
         not-less-rank k (sum k (l .floor) (estimate-at m (l .to))) (estimate-at m (l .from)) (sum-proper k (l .floor) (estimate-at m (l .to)) f-proper to-proper) from-proper rises in
     let f = floor-rank m law n l e in
     let f0 : 0 < rank k (l .floor) = f .0 in
@@ -40,21 +40,21 @@ link-key m law n l e a b lt le =
     before-by (pair-at m (l .from) a) (pair-at m (l .to) b) (λ v. omega arith)
 
 -- no uneven place has a key below k
-abbrev pub Floor : Meaning → List Price → Pair → Type 0
-Floor m gs k = (y : ℕ) → y < places m → (Even m gs y → ⊥) → Upto k (pair m gs y)
+abbrev pub Lower-bound : Meaning → List Price → Pair → Type 0
+Lower-bound m gs k = (y : ℕ) → y < places m → (Even m gs y → ⊥) → Upto k (pair m gs y)
 
 -- a chain to x that costs just the lookahead
-pub record Way (m : Meaning) (gs : List Price) (x : ℕ) (met : List ℕ) : Type 0 where
+pub record Least-chain (m : Meaning) (gs : List Price) (x : ℕ) (met : List ℕ) : Type 0 where
   pub chain : Chain m x met (lookahead m gs x)
   pub rising : (z : ℕ) → Among z met → ahead m gs z ≤ ahead m gs x
 
-module _ (m : Meaning) (law : Lawful m) (gs : List Price) (b : Bounds m gs) (k : Pair) (low : Floor m gs k) where
-  -- below the floor places are even
+module _ (m : Meaning) (law : Lawful m) (gs : List Price) (b : Bounds m gs) (k : Pair) (low : Lower-bound m gs k) where
+  -- below k places are even
   pub even-below : (x v : ℕ) → x < places m → min (stand m gs x) (ahead m gs x) ≤ v → Before (pair-at m x v) k → Even m gs x
   even-below x v l le h = ⊎-elim (λ (e : stand m gs x ≡ ahead m gs x). even-rank m law gs b x l e)
       (λ (u : stand m gs x ≡ ahead m gs x → ⊥). let w : Upto k (pair m gs x) = low x l (λ e. u (ap (rank (m .kind)) e)) in absurd (omega arith)) (cases-eq (stand m gs x) (ahead m gs x))
 
-  -- a chain whose key is below the floor bounds the standing of its last place
+  -- a chain whose key is below k bounds the standing of its last place
   pub reach : {x : ℕ} {ps : List ℕ} {p : Price} → Chain m x ps p → Before (pair-at m x (rank (m .kind) p)) k → stand m gs x ≤ rank (m .kind) p
   reach begin h =
       let z : ahead m gs (m .start) ≡ 0 = ahead-start m law gs b in
@@ -69,7 +69,7 @@ module _ (m : Meaning) (law : Lawful m) (gs : List Price) (b : Bounds m gs) (k :
       let ev : stand m gs (l .to) ≡ ahead m gs (l .to) = ap (rank (m .kind)) (even-below (l .to) (rank (m .kind) (sum (m .kind) p (l .price))) (link-law m law n l e .to-in) (omega arith) h) in
       omega arith
 
-  -- a chain whose key is at most the floor bounds the lookahead
+  -- a chain whose key is at most k bounds the lookahead
   pub reach-ahead : {x : ℕ} {ps : List ℕ} {p : Price} → Chain m x ps p → Upto (pair-at m x (rank (m .kind) p)) k → ahead m gs x ≤ rank (m .kind) p
   reach-ahead begin h = let z : ahead m gs (m .start) ≡ 0 = ahead-start m law gs b in omega arith
   reach-ahead (more {p = p} n l e o c f) h =
@@ -80,8 +80,8 @@ module _ (m : Meaning) (law : Lawful m) (gs : List Price) (b : Bounds m gs) (k :
       let a : ahead m gs (l .to) ≤ plus m (stand m gs (l .from)) (cost m l) = ahead-below m law gs b n l e in
       omega arith
 
-  pub way-start : Way m gs (m .start) (m .start ∷ [])
-  way-start = record {
+  pub least-start : Least-chain m gs (m .start) (m .start ∷ [])
+  least-start = record {
       chain = rw (look-start m gs) begin;
       rising = λ z. ⊎-elim (λ (p : z ≡ m .start). rw p (omega arith)) (λ (q : ⊥). absurd q)
     }
@@ -89,7 +89,7 @@ module _ (m : Meaning) (law : Lawful m) (gs : List Price) (b : Bounds m gs) (k :
   pub by-value : (x : ℕ) (y : By m gs x) → ahead m gs x ≡ plus m (stand m gs (y .link .from)) (cost m (y .link))
   by-value x y = ap (rank (m .kind)) (y .gives) ∙ over-link m law gs b (y .number) (y .link) (y .named)
 
-  -- the from place of a link by which an open lookahead at or below the floor comes about is below the floor, and even
+  -- where an open lookahead has a key of at most k, the from place of its link has one below k, and is even
   from-below : (x : ℕ) (y : By m gs x) → ahead m gs x < limit m → Upto (pair-at m x (ahead m gs x)) k → Before (pair-at m (y .link .from) (stand m gs (y .link .from))) k
   from-below x y op u =
       let l = y .link in
@@ -112,8 +112,8 @@ module _ (m : Meaning) (law : Lawful m) (gs : List Price) (b : Bounds m gs) (k :
       let d : 0 < cost m (y .link) = price-rank m law (y .number) (y .link) (y .named) in omega arith
 
   -- one link more, that by which the lookahead comes about
-  pub way-more : (x : ℕ) (y : By m gs x) → ahead m gs x < limit m → Upto (pair-at m x (ahead m gs x)) k → {ps : List ℕ} → Way m gs (y .link .from) ps → Way m gs x (x ∷ ps)
-  way-more x y op u {ps} w =
+  pub least-more : (x : ℕ) (y : By m gs x) → ahead m gs x < limit m → Upto (pair-at m x (ahead m gs x)) k → {ps : List ℕ} → Least-chain m gs (y .link .from) ps → Least-chain m gs x (x ∷ ps)
+  least-more x y op u {ps} w =
       let l = y .link in
       let even : Even m gs (l .from) = from-even x y op u in
       let d : 0 < cost m l = price-rank m law (y .number) l (y .named) in
@@ -128,16 +128,16 @@ module _ (m : Meaning) (law : Lawful m) (gs : List Price) (b : Bounds m gs) (k :
       }
 
   -- following such links back from x one comes to the start
-  back : (n x : ℕ) → ahead m gs x < n → ahead m gs x < limit m → Upto (pair-at m x (ahead m gs x)) k → (ps : List ℕ) × Way m gs x ps
+  back : (n x : ℕ) → ahead m gs x < n → ahead m gs x < limit m → Upto (pair-at m x (ahead m gs x)) k → (ps : List ℕ) × Least-chain m gs x ps
   back zero x lt op u = absurd (omega arith)
-  back (suc n) x lt op u = ⊎-elim (λ (e : x ≡ m .start). (m .start ∷ [], rw e way-start)) (by-link (back n)) (ahead-by m law gs b x op)
+  back (suc n) x lt op u = ⊎-elim (λ (e : x ≡ m .start). (m .start ∷ [], rw e least-start)) (by-link (back n)) (ahead-by m law gs b x op)
     where
-      by-link : ((y : ℕ) → ahead m gs y < n → ahead m gs y < limit m → Upto (pair-at m y (ahead m gs y)) k → (ps : List ℕ) × Way m gs y ps) → By m gs x → (ps : List ℕ) × Way m gs x ps
+      by-link : ((y : ℕ) → ahead m gs y < n → ahead m gs y < limit m → Upto (pair-at m y (ahead m gs y)) k → (ps : List ℕ) × Least-chain m gs y ps) → By m gs x → (ps : List ℕ) × Least-chain m gs x ps
       by-link ih y =
           let f = from-ahead x y op u in
-          let w = ih (y .link .from) (omega arith) (omega arith) (from-low x y op u) in (x ∷ w .0, way-more x y op u (w .1))
+          let w = ih (y .link .from) (omega arith) (omega arith) (from-low x y op u) in (x ∷ w .0, least-more x y op u (w .1))
 
-  -- at or below the floor, the lookahead is the true distance
+  -- a lookahead whose key is at most k is the true distance
   pub look-true : (x : ℕ) → Upto (pair-at m x (ahead m gs x)) k → True-distance m x (lookahead m gs x)
   look-true x u = distance-by m law x (lookahead m gs x)
       (λ ps q c. rank-not-less (m .kind) q (lookahead m gs x) (chain-proper m law c) (look-proper m law gs b x) (⊎-elim

@@ -16,14 +16,14 @@ use Rattle.std.specs.declared.option.Option.the-variants.{Some}
 use Rattle.lifelong.specs.Standings.{key, lookahead, standing-at}
 use Rattle.lifelong.specs.Step.{Even, Taken, next, step}
 use Rattle.lifelong.specs.Bounds.{Bounds}
-use Rattle.lifelong.proofs.Looks.{By, look-proper, stand-proper}
-use Rattle.lifelong.proofs.Picks.{else-below, next-taken, step-elsewhere, step-lowered}
+use Rattle.lifelong.proofs.Lookaheads.{By, look-proper, stand-proper}
+use Rattle.lifelong.proofs.Agreement.{else-below, next-taken, step-elsewhere, step-lowered}
 use Rattle.lifelong.proofs.Ranks.{Before, Pair, Upto, ahead, ahead-below, ahead-by, ahead-capped, ahead-start, before-by, below-not, cost, even-rank, key-reads, limit, or-even, over-link, pair, pair-at, plus, stand, stand-capped, upto-by}
 use Rattle.lifelong.proofs.Reach.{link-key}
-use Rattle.lifelong.proofs.Steps.{step-bounds, taken-floor, taken-raised}
+use Rattle.lifelong.proofs.Steps.{step-bounds, taken-bound, taken-raised}
 
 -- a link from x to u, over which v comes to no more than w
-record Touched (m : Meaning) (x v u w : ℕ) : Type 0 where
+record Via (m : Meaning) (x v u w : ℕ) : Type 0 where
   number : ℕ
   link : Link
   named : link-at m number ≡ Some link
@@ -31,17 +31,17 @@ record Touched (m : Meaning) (x v u w : ℕ) : Type 0 where
   to-is : link .to ≡ u
   least : plus m v (cost m link) ≤ w
 
-widened : (m : Meaning) (x v u w z : ℕ) → w ≤ z → Touched m x v u w → Touched m x v u z
+widened : (m : Meaning) (x v u w z : ℕ) → w ≤ z → Via m x v u w → Via m x v u z
 widened m x v u w z le t = record { number = t .number; link = t .link; named = t .named; from-is = t .from-is; to-is = t .to-is; least = omega (arith, t .least) }
 
 -- where only the standing of x differs, a lookahead that differs came by a link from x
-touched : (m : Meaning) → Lawful m → (fs hs : List Price) → Bounds m fs → Bounds m hs → (x v : ℕ) → ((y : ℕ) → (y ≡ x → ⊥) → standing-at hs y ≡ standing-at fs y) → v ≤ stand m fs x →
-    (u : ℕ) → ahead m fs u < ahead m hs u → Touched m x v u (ahead m fs u)
-touched m law fs hs bf bh x v same le u lt = ⊎-elim at-start at-link (ahead-by m law fs bf u (omega (arith, ahead-capped m law hs bh u)))
+via : (m : Meaning) → Lawful m → (fs hs : List Price) → Bounds m fs → Bounds m hs → (x v : ℕ) → ((y : ℕ) → (y ≡ x → ⊥) → standing-at hs y ≡ standing-at fs y) → v ≤ stand m fs x →
+    (u : ℕ) → ahead m fs u < ahead m hs u → Via m x v u (ahead m fs u)
+via m law fs hs bf bh x v same le u lt = ⊎-elim at-start at-link (ahead-by m law fs bf u (omega (arith, ahead-capped m law hs bh u)))
   where
-    at-start : u ≡ m .start → Touched m x v u (ahead m fs u)
+    at-start : u ≡ m .start → Via m x v u (ahead m fs u)
     at-start e = let z : ahead m hs u ≡ 0 = ap (ahead m hs) e ∙ ahead-start m law hs bh in absurd (omega arith)
-    at-link : By m fs u → Touched m x v u (ahead m fs u)
+    at-link : By m fs u → Via m x v u (ahead m fs u)
     at-link y =
         let l = y .link in
         let val : ahead m fs u ≡ plus m (stand m fs (l .from)) (cost m l) = ap (rank (m .kind)) (y .gives) ∙ over-link m law fs bf (y .number) l (y .named) in ⊎-elim
@@ -85,27 +85,27 @@ module _ (m : Meaning) (law : Lawful m) (gs : List Price) (b : Bounds m gs) (x :
   v-new = omega (arith, new, ahead-capped m law gs b x)
 
   -- the lookahead of u is as it was, or both are at least v + price over a link from x to u
-  change : (u : ℕ) → (ahead m hs u ≡ ahead m gs u) ⊎ Touched m x v u (min (ahead m gs u) (ahead m hs u))
+  change : (u : ℕ) → (ahead m hs u ≡ ahead m gs u) ⊎ Via m x v u (min (ahead m gs u) (ahead m hs u))
   change u = ⊎-elim (λ (q : ahead m gs u ≡ ahead m hs u). inl (sym q)) (⊎-elim up down) (cases-order (ahead m gs u) (ahead m hs u))
     where
-      up : ahead m gs u < ahead m hs u → (ahead m hs u ≡ ahead m gs u) ⊎ Touched m x v u (min (ahead m gs u) (ahead m hs u))
-      up h = inr (widened m x v u (ahead m gs u) (min (ahead m gs u) (ahead m hs u)) (omega arith) (touched m law gs hs b bh x v elsewhere (omega arith) u h))
-      down : ahead m hs u < ahead m gs u → (ahead m hs u ≡ ahead m gs u) ⊎ Touched m x v u (min (ahead m gs u) (ahead m hs u))
-      down h = inr (widened m x v u (ahead m hs u) (min (ahead m gs u) (ahead m hs u)) (omega arith) (touched m law hs gs bh b x v (λ y n. sym (elsewhere y n)) v-new u h))
+      up : ahead m gs u < ahead m hs u → (ahead m hs u ≡ ahead m gs u) ⊎ Via m x v u (min (ahead m gs u) (ahead m hs u))
+      up h = inr (widened m x v u (ahead m gs u) (min (ahead m gs u) (ahead m hs u)) (omega arith) (via m law gs hs b bh x v elsewhere (omega arith) u h))
+      down : ahead m hs u < ahead m gs u → (ahead m hs u ≡ ahead m gs u) ⊎ Via m x v u (min (ahead m gs u) (ahead m hs u))
+      down h = inr (widened m x v u (ahead m hs u) (min (ahead m gs u) (ahead m hs u)) (omega arith) (via m law hs gs bh b x v (λ y n. sym (elsewhere y n)) v-new u h))
 
   rises-self : (Even m hs x → ⊥) → Before (pair m gs x) (pair m hs x)
   rises-self u = ⊎-elim
       (λ (q : ahead m hs x ≡ ahead m gs x). ⊎-elim
         (λ (w : (ahead m gs x < stand m gs x) × (stand m hs x ≡ ahead m gs x)). absurd (u (even-rank m law hs bh x (t .inside) (omega arith))))
         (λ (w : (stand m gs x < ahead m gs x) × (stand m hs x ≡ limit m)). let c = ahead-capped m law gs b x in before-by (pair m gs x) (pair m hs x) (λ z. omega arith)) new)
-      (λ (c : Touched m x v x (min (ahead m gs x) (ahead m hs x))). absurd (link-law m law (c .number) (c .link) (c .named) .apart (c .from-is ∙ sym (c .to-is))))
+      (λ (c : Via m x v x (min (ahead m gs x) (ahead m hs x))). absurd (link-law m law (c .number) (c .link) (c .named) .apart (c .from-is ∙ sym (c .to-is))))
       (change x)
 
   -- an uneven place keeps the key it had, or has one above that of the place taken
   rises-other : (y : ℕ) → (y ≡ x → ⊥) → y < places m → (Even m hs y → ⊥) → ((Even m gs y → ⊥) × (min (stand m hs y) (ahead m hs y) ≡ min (stand m gs y) (ahead m gs y))) ⊎ Before (pair m gs x) (pair m hs y)
   rises-other y n l u = let o : stand m hs y ≡ stand m gs y = ap (rank (m .kind)) (elsewhere y n) in ⊎-elim
       (λ (q : ahead m hs y ≡ ahead m gs y). inl ((λ ev. let z : stand m gs y ≡ ahead m gs y = ap (rank (m .kind)) ev in u (even-rank m law hs bh y l (omega arith))), omega arith))
-      (λ (c : Touched m x v y (min (ahead m gs y) (ahead m hs y))).
+      (λ (c : Via m x v y (min (ahead m gs y) (ahead m hs y))).
         let least : plus m v (cost m (c .link)) ≤ min (ahead m gs y) (ahead m hs y) = c .least in ⊎-elim
         (λ (h : stand m gs y < plus m v (cost m (c .link))). inl ((λ ev. let z : stand m gs y ≡ ahead m gs y = ap (rank (m .kind)) ev in omega arith), omega arith))
         (λ (h : plus m v (cost m (c .link)) ≤ stand m gs y).
@@ -122,7 +122,7 @@ module _ (m : Meaning) (law : Lawful m) (gs : List Price) (b : Bounds m gs) (x :
       (λ (q : y ≡ x). or-even (rw q (rises-self (rw q at u))))
       (λ (n : y ≡ x → ⊥). ⊎-elim
         (λ (w : (Even m gs y → ⊥) × (min (stand m hs y) (ahead m hs y) ≡ min (stand m gs y) (ahead m gs y))).
-          subst (λ (z : ℕ). Upto (pair m gs x) (pair-at m y z)) (sym (w .1)) (taken-floor m law gs b x t y l (w .0)))
+          subst (λ (z : ℕ). Upto (pair m gs x) (pair-at m y z)) (sym (w .1)) (taken-bound m law gs b x t y l (w .0)))
         (λ (w : Before (pair m gs x) (pair m hs y)). or-even w) (rises-other y n l u)) (cases-eq y x)
 
   pub next-key : (q : ℕ) → next m hs ≡ Some q → key-less (key m hs q) (key m gs x) ≡ false

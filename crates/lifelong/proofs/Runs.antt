@@ -39,21 +39,21 @@ module _ (m : Meaning) (gs : List Price) where
   run-step n p e d = onward n e ∙ ap (λ o. taking m gs o (λ p. run m n (step m gs p))) d
 
 -- A run either stops at once or takes a step: an induction along the steps of runs.
-pub data Goes (m : Meaning) : ℕ → List Price → Run → Type 0 where
-  spent : {gs : List Price} → Goes m 0 gs (stopped gs)
-  stops : {n : ℕ} {gs : List Price} → settled m gs ≡ true → Goes m n gs (stopped gs)
-  stuck : {n : ℕ} {gs : List Price} → next m gs ≡ None → Goes m n gs (stopped gs)
-  goes : {n : ℕ} {gs : List Price} {r : Run} (p : ℕ) → settled m gs ≡ false → next m gs ≡ Some p → Goes m n (step m gs p) r → Goes m (suc n) gs (after (expansion m gs p) r)
+pub data Ran (m : Meaning) : ℕ → List Price → Run → Type 0 where
+  spent : {gs : List Price} → Ran m 0 gs (stopped gs)
+  stops : {n : ℕ} {gs : List Price} → settled m gs ≡ true → Ran m n gs (stopped gs)
+  stuck : {n : ℕ} {gs : List Price} → next m gs ≡ None → Ran m n gs (stopped gs)
+  takes : {n : ℕ} {gs : List Price} {r : Run} (p : ℕ) → settled m gs ≡ false → next m gs ≡ Some p → Ran m n (step m gs p) r → Ran m (suc n) gs (after (expansion m gs p) r)
 
-pub run-goes : (m : Meaning) (n : ℕ) (gs : List Price) → Goes m n gs (run m n gs)
-run-goes m zero gs = subst (Goes m 0 gs) (sym (run-none m gs)) spent
-run-goes m (suc n) gs = ⊎-elim
-    (λ (t : settled m gs ≡ true). subst (Goes m (suc n) gs) (sym (run-settled m gs (suc n) t)) (stops t))
-    (λ (f : settled m gs ≡ false). on f (λ p. run-goes m n (step m gs p)) (next m gs) refl) (cases-bool (settled m gs))
+pub run-ran : (m : Meaning) (n : ℕ) (gs : List Price) → Ran m n gs (run m n gs)
+run-ran m zero gs = subst (Ran m 0 gs) (sym (run-none m gs)) spent
+run-ran m (suc n) gs = ⊎-elim
+    (λ (t : settled m gs ≡ true). subst (Ran m (suc n) gs) (sym (run-settled m gs (suc n) t)) (stops t))
+    (λ (f : settled m gs ≡ false). on f (λ p. run-ran m n (step m gs p)) (next m gs) refl) (cases-bool (settled m gs))
   where
-    on : settled m gs ≡ false → ((p : ℕ) → Goes m n (step m gs p) (run m n (step m gs p))) → (o : Option ℕ) → next m gs ≡ o → Goes m (suc n) gs (run m (suc n) gs)
-    on f ih None e = subst (Goes m (suc n) gs) (sym (run-stuck m gs (suc n) f e)) (stuck e)
-    on f ih (Some p) e = subst (Goes m (suc n) gs) (sym (run-step m gs n p f e)) (goes p f e (ih p))
+    on : settled m gs ≡ false → ((p : ℕ) → Ran m n (step m gs p) (run m n (step m gs p))) → (o : Option ℕ) → next m gs ≡ o → Ran m (suc n) gs (run m (suc n) gs)
+    on f ih None e = subst (Ran m (suc n) gs) (sym (run-stuck m gs (suc n) f e)) (stuck e)
+    on f ih (Some p) e = subst (Ran m (suc n) gs) (sym (run-step m gs n p f e)) (takes p f e (ih p))
 
 halt : (m : Meaning) (a b : ℕ) (gs : List Price) → ((n : ℕ) → run m n gs ≡ stopped gs) → run m (a + b) gs ≡ then-run (run m a gs) (run m b (run m a gs .left))
 halt m a b gs h = h (a + b) ∙ sym (h b) ∙ ap (λ r. then-run r (run m b (r .left))) (sym (h a))

@@ -20,30 +20,30 @@ use Rattle.std.specs.declared.option.Option.the-variants.{Some}
 use Rattle.lifelong.specs.Standings.{key, lookahead, standing-at}
 use Rattle.lifelong.specs.Step.{Even, Settled, Taken, next, step}
 use Rattle.lifelong.specs.Bounds.{Bounds}
-use Rattle.lifelong.proofs.Looks.{look-proper, stand-proper}
-use Rattle.lifelong.proofs.Picks.{else-below, next-taken, step-elsewhere, step-long, step-lowered, step-raised}
+use Rattle.lifelong.proofs.Lookaheads.{look-proper, stand-proper}
+use Rattle.lifelong.proofs.Agreement.{else-below, next-taken, step-elsewhere, step-long, step-lowered, step-raised}
 use Rattle.lifelong.proofs.Ranks.{Before, Upto, ahead, ahead-capped, key-reads, limit, not-below, pair, pair-at, stand, upto-by}
-use Rattle.lifelong.proofs.Reach.{Floor, look-true, reach-ahead}
+use Rattle.lifelong.proofs.Reach.{Lower-bound, look-true, reach-ahead}
 
 module _ (m : Meaning) (law : Lawful m) (gs : List Price) (b : Bounds m gs) where
   upto-keys : (x y : ℕ) → x < places m → y < places m → key-less (key m gs y) (key m gs x) ≡ false → Upto (pair m gs x) (pair m gs y)
   upto-keys x y lx ly h = not-below m (key m gs y) (key m gs x) (pair m gs y) (pair m gs x) (key-reads m law gs b y ly) (key-reads m law gs b x lx) h
 
-  pub taken-floor : (p : ℕ) → Taken m gs p → Floor m gs (pair m gs p)
-  taken-floor p t y l u = upto-keys p y (t .inside) l (before-key (key m gs y) (key m gs p) y p (t .first y l u))
+  pub taken-bound : (p : ℕ) → Taken m gs p → Lower-bound m gs (pair m gs p)
+  taken-bound p t y l u = upto-keys p y (t .inside) l (before-key (key m gs y) (key m gs p) y p (t .first y l u))
 
-  pub settled-floor : Settled m gs → Floor m gs (pair m gs (m .goal))
-  settled-floor s y l u = upto-keys (m .goal) y (law .goal-in) l (s .first y l u)
+  pub settled-bound : Settled m gs → Lower-bound m gs (pair m gs (m .goal))
+  settled-bound s y l u = upto-keys (m .goal) y (law .goal-in) l (s .first y l u)
 
   pub lowered-true : (p : ℕ) → Taken m gs p → less (lookahead m gs p) (standing-at gs p) ≡ true → True-distance m p (lookahead m gs p)
   lowered-true p t h =
       let r : ahead m gs p < stand m gs p = less-rank (m .kind) (lookahead m gs p) (standing-at gs p) (look-proper m law gs b p) (stand-proper m law gs b p (t .inside)) h in
-      look-true m law gs b (pair m gs p) (taken-floor p t) p (upto-by (pair-at m p (ahead m gs p)) (pair m gs p) (λ w. omega arith))
+      look-true m law gs b (pair m gs p) (taken-bound p t) p (upto-by (pair-at m p (ahead m gs p)) (pair m gs p) (λ w. omega arith))
 
   pub settled-true : Settled m gs → True-distance m (m .goal) (standing-at gs (m .goal))
   settled-true s =
       let e : stand m gs (m .goal) ≡ ahead m gs (m .goal) = ap (rank (m .kind)) (s .even) in
-      rw (s .even) (look-true m law gs b (pair m gs (m .goal)) (settled-floor s) (m .goal) (upto-by (pair-at m (m .goal) (ahead m gs (m .goal))) (pair m gs (m .goal)) (λ w. omega arith)))
+      rw (s .even) (look-true m law gs b (pair m gs (m .goal)) (settled-bound s) (m .goal) (upto-by (pair-at m (m .goal) (ahead m gs (m .goal))) (pair m gs (m .goal)) (λ w. omega arith)))
 
   pub true-not-taken : (p : ℕ) → Taken m gs p → True-distance m p (standing-at gs p) → ⊥
   true-not-taken p t d = ⊎-elim
@@ -52,7 +52,7 @@ module _ (m : Meaning) (law : Lawful m) (gs : List Price) (b : Bounds m gs) wher
         let r : stand m gs p < ahead m gs p = less-rank (m .kind) (standing-at gs p) (lookahead m gs p) (stand-proper m law gs b p (t .inside)) (look-proper m law gs b p) (else-below m gs p (t .uneven) f) in
         let c : ahead m gs p ≤ limit m = ahead-capped m law gs b p in ⊎-elim
         (λ (w : (ps : List ℕ) × Chain m p ps (standing-at gs p)).
-          let q : ahead m gs p ≤ stand m gs p = reach-ahead m law gs b (pair m gs p) (taken-floor p t) (w .1) (upto-by (pair-at m p (stand m gs p)) (pair m gs p) (λ v. omega arith)) in omega arith)
+          let q : ahead m gs p ≤ stand m gs p = reach-ahead m law gs b (pair m gs p) (taken-bound p t) (w .1) (upto-by (pair-at m p (stand m gs p)) (pair m gs p) (λ v. omega arith)) in omega arith)
         (λ (w : (standing-at gs p ≡ closed) × ((ps : List ℕ) (q : Price) → Chain m p ps q → ⊥)). omega (arith, ap (rank (m .kind)) (w .0), rank-closed (m .kind))) (d .met))
       (cases-bool (less (lookahead m gs p) (standing-at gs p)))
 

@@ -26,36 +26,36 @@ use Rattle.lifelong.specs.Step.{Even, Settled, settled}
 use Rattle.lifelong.specs.Bounds.{Bounds}
 use Rattle.lifelong.specs.Shown.{Cheapest, One-trace, One-true-trace}
 use Rattle.lifelong.specs.Trace.{Move, True-move, True-trace, arrived, move, moved, moving, none, onto, shows, trace, traced, walk}
-use Rattle.lifelong.proofs.Looks.{By, look-below, look-proper, stand-proper}
+use Rattle.lifelong.proofs.Lookaheads.{By, look-below, look-proper, stand-proper}
 use Rattle.lifelong.proofs.Moves.{Nearest, move-of, no-move, not-nearer, the-move}
 use Rattle.lifelong.proofs.Ranks.{Before, Pair, Upto, ahead, ahead-below, ahead-by, before-upto, cost, limit, over-link, pair, pair-at, plus, stand, upto-by}
-use Rattle.lifelong.proofs.Reach.{Floor, Way, by-value, even-below, from-ahead, from-even, from-low, link-key, look-true, reach, way-more, way-start}
-use Rattle.lifelong.proofs.Picks.{settled-is}
-use Rattle.lifelong.proofs.Steps.{settled-floor, settled-true}
+use Rattle.lifelong.proofs.Reach.{Lower-bound, Least-chain, by-value, even-below, from-ahead, from-even, from-low, link-key, look-true, reach, least-more, least-start}
+use Rattle.lifelong.proofs.Agreement.{settled-is}
+use Rattle.lifelong.proofs.Steps.{settled-bound, settled-true}
 
 -- the walk, move by move
 pub data Walked (m : Meaning) (gs : List Price) : ℕ → List ℕ → Type 0 where
-  home : Walked m gs (m .start) (m .start ∷ [])
-  back : {ps : List ℕ} (x : ℕ) (a : Move) → (x ≡ m .start → ⊥) → move m gs x ≡ Some a → is-open (a .cost) ≡ true → Walked m gs (a .from) ps → Walked m gs x (x ∷ ps)
+  at-start : Walked m gs (m .start) (m .start ∷ [])
+  by-move : {ps : List ℕ} (x : ℕ) (a : Move) → (x ≡ m .start → ⊥) → move m gs x ≡ Some a → is-open (a .cost) ≡ true → Walked m gs (a .from) ps → Walked m gs x (x ∷ ps)
 
 module _ (m : Meaning) (gs : List Price) where
-  walk-home : (n x : ℕ) → x ≡ m .start → walk m gs n x ≡ Some (x ∷ [])
+  walk-at-start : (n x : ℕ) → x ≡ m .start → walk m gs n x ≡ Some (x ∷ [])
   unfolding walk
-  walk-home zero x e = cond-true (eqb x (m .start)) (Some (x ∷ [])) None (eq-eqb x (m .start) e)
-  walk-home (suc n) x e = cond-true (eqb x (m .start)) (Some (x ∷ [])) (moving x (move m gs x) (λ y. walk m gs n y)) (eq-eqb x (m .start) e)
+  walk-at-start zero x e = cond-true (eqb x (m .start)) (Some (x ∷ [])) None (eq-eqb x (m .start) e)
+  walk-at-start (suc n) x e = cond-true (eqb x (m .start)) (Some (x ∷ [])) (moving x (move m gs x) (λ y. walk m gs n y)) (eq-eqb x (m .start) e)
 
   walk-away : (n x : ℕ) → (x ≡ m .start → ⊥) → walk m gs (suc n) x ≡ moving x (move m gs x) (λ y. walk m gs n y)
   unfolding walk
   walk-away n x u = cond-false (eqb x (m .start)) (Some (x ∷ [])) (moving x (move m gs x) (λ y. walk m gs n y)) (ne-eqb x (m .start) u)
 
   some-place : {x : ℕ} {ps : List ℕ} → Walked m gs x ps → 1 ≤ length ps
-  some-place home = omega arith
-  some-place (back x a u e o w) = omega arith
+  some-place at-start = omega arith
+  some-place (by-move x a u e o w) = omega arith
 
   pub walked-walk : (n : ℕ) {x : ℕ} {ps : List ℕ} → Walked m gs x ps → length ps ≤ suc n → walk m gs n x ≡ Some ps
-  walked-walk n home l = walk-home n (m .start) refl
-  walked-walk zero (back x a u e o w) l = absurd (omega (arith, some-place w))
-  walked-walk (suc n) (back {ps = ps} x a u e o w) l =
+  walked-walk n at-start l = walk-at-start n (m .start) refl
+  walked-walk zero (by-move x a u e o w) l = absurd (omega (arith, some-place w))
+  walked-walk (suc n) (by-move {ps = ps} x a u e o w) l =
       walk-away n x u ∙ ap (λ z. moving x z (λ y. walk m gs n y)) e
       ∙ cond-true (is-open (a .cost)) (onto x (walk m gs n (a .from))) None o ∙ ap (onto x) (walked-walk n w (omega arith))
 
@@ -64,13 +64,13 @@ not-open closed e = refl
 not-open (open-at xs) e = absurd (both-ways true e refl)
 
 -- a place that is even and open, with its key at most k
-pub record Firm (m : Meaning) (gs : List Price) (k : Pair) (x : ℕ) : Type 0 where
+pub record Fixed (m : Meaning) (gs : List Price) (k : Pair) (x : ℕ) : Type 0 where
   pub even : Even m gs x
   pub opens : ahead m gs x < limit m
   pub low : Upto (pair-at m x (ahead m gs x)) k
 
-module _ (m : Meaning) (law : Lawful m) (gs : List Price) (b : Bounds m gs) (k : Pair) (floor : Floor m gs k) where
-  -- the move from a firm place is by a link that gives its lookahead, of those the one from the lowest place
+module _ (m : Meaning) (law : Lawful m) (gs : List Price) (b : Bounds m gs) (k : Pair) (bound : Lower-bound m gs k) where
+  -- the move from a fixed place is by a link that gives its lookahead, of those the one from the lowest place
   record Move-by (x : ℕ) : Type 0 where
     taken : Move
     is : move m gs x ≡ Some taken
@@ -95,25 +95,25 @@ module _ (m : Meaning) (law : Lawful m) (gs : List Price) (b : Bounds m gs) (k :
         lowest = λ n l d t q. not-nearer (move-of (m .kind) gs n l) a (h .first n l d t) .1 (q ∙ sym same)
       }
 
-  firm-move : (x : ℕ) → (x ≡ m .start → ⊥) → Firm m gs k x → Move-by x
-  firm-move x u f = ⊎-elim (λ (e : x ≡ m .start). absurd (u e)) (λ (y : By m gs x). at y (move m gs x) refl) (ahead-by m law gs b x (f .opens))
+  fixed-move : (x : ℕ) → (x ≡ m .start → ⊥) → Fixed m gs k x → Move-by x
+  fixed-move x u f = ⊎-elim (λ (e : x ≡ m .start). absurd (u e)) (λ (y : By m gs x). at y (move m gs x) refl) (ahead-by m law gs b x (f .opens))
     where
       at : By m gs x → (o : Option Move) → move m gs x ≡ o → Move-by x
       at y None e = absurd (no-move m gs x e (y .number) (y .link) (y .named) (y .to-is))
       at y (Some a) e = moves-by x u a e y
 
-  firm-from : (x : ℕ) → Firm m gs k x → (y : By m gs x) → Firm m gs k (y .link .from)
-  firm-from x f y = record {
-      even = from-even m law gs b k floor x y (f .opens) (f .low);
-      opens = omega (arith, from-ahead m law gs b k floor x y (f .opens) (f .low), f .opens);
-      low = from-low m law gs b k floor x y (f .opens) (f .low)
+  fixed-from : (x : ℕ) → Fixed m gs k x → (y : By m gs x) → Fixed m gs k (y .link .from)
+  fixed-from x f y = record {
+      even = from-even m law gs b k bound x y (f .opens) (f .low);
+      opens = omega (arith, from-ahead m law gs b k bound x y (f .opens) (f .low), f .opens);
+      low = from-low m law gs b k bound x y (f .opens) (f .low)
     }
 
-  pub firm-true : (x : ℕ) → Firm m gs k x → True-distance m x (standing-at gs x)
-  firm-true x f = rw (f .even) (look-true m law gs b k floor x (f .low))
+  pub fixed-true : (x : ℕ) → Fixed m gs k x → True-distance m x (standing-at gs x)
+  fixed-true x f = rw (f .even) (look-true m law gs b k bound x (f .low))
 
   -- a from place that would do by its true distance has no greater standing
-  module _ (x : ℕ) (f : Firm m gs k x) (n : ℕ) (l : Link) (p : Price) (e : link-at m n ≡ Some l) (t : l .to ≡ x) (d : True-distance m (l .from) p) where
+  module _ (x : ℕ) (f : Fixed m gs k x) (n : ℕ) (l : Link) (p : Price) (e : link-at m n ≡ Some l) (t : l .to ≡ x) (d : True-distance m (l .from) p) where
     by-distance : rank (m .kind) (sum (m .kind) p (l .price)) ≡ plus m (rank (m .kind) p) (cost m l)
     by-distance = link-sum m law n l e p (distance-within m law (l .from) p d)
 
@@ -122,7 +122,7 @@ module _ (m : Meaning) (law : Lawful m) (gs : List Price) (b : Bounds m gs) (k :
         let o : ahead m gs x < limit m = f .opens in ⊎-elim
         (λ (w : (ps : List ℕ) × Chain m (l .from) ps p).
           let first : Before (pair-at m (l .from) (rank (m .kind) p)) (pair-at m (l .to) (ahead m gs x)) = link-key m law n l e (rank (m .kind) p) (ahead m gs x) (omega arith) h in
-          reach m law gs b k floor (w .1) (before-upto (pair-at m (l .from) (rank (m .kind) p)) (pair-at m (l .to) (ahead m gs x)) k first (rw t (f .low))))
+          reach m law gs b k bound (w .1) (before-upto (pair-at m (l .from) (rank (m .kind) p)) (pair-at m (l .to) (ahead m gs x)) k first (rw t (f .low))))
         (λ (w : (p ≡ closed) × ((ps : List ℕ) (q : Price) → Chain m (l .from) ps q → ⊥)). let z : rank (m .kind) p ≡ limit m = ap (rank (m .kind)) (w .0) ∙ rank-closed (m .kind) in absurd (omega arith)) (d .met)
 
     ahead-low : ahead m gs x ≤ plus m (stand m gs (l .from)) (cost m l)
@@ -146,47 +146,47 @@ module _ (m : Meaning) (law : Lawful m) (gs : List Price) (b : Bounds m gs) (k :
           (omega (arith, over-link m law gs b n l e))
 
   -- so the move is one by true distances
-  true-move : (x : ℕ) → Firm m gs k x → (h : Move-by x) → True-move m x (h .taken .from)
+  true-move : (x : ℕ) → Fixed m gs k x → (h : Move-by x) → True-move m x (h .taken .from)
   true-move x f h =
       let y = h .by in
       let gives : sum (m .kind) (standing-at gs (y .link .from)) (y .link .price) ≡ lookahead m gs x = sym (y .gives) in
       record {
         number = y .number; link = y .link; named = y .named; from-is = h .from-is; to-is = y .to-is;
         far = standing-at gs (y .link .from);
-        is-far = subst (λ (z : ℕ). True-distance m z (standing-at gs (y .link .from))) (h .from-is) (firm-true (y .link .from) (firm-from x f y));
+        is-far = subst (λ (z : ℕ). True-distance m z (standing-at gs (y .link .from))) (h .from-is) (fixed-true (y .link .from) (fixed-from x f y));
         least = λ n l p e t d. rw gives (none-less x f n l p e t d);
         lowest = λ n l p e t d q. h .lowest n l e t (tie-stands x f n l p e t d (q ∙ gives))
       }
 
-  -- the walk from a firm place, with its chain
+  -- the walk from a fixed place, with its chain
   pub record Shown (x : ℕ) : Type 0 where
     pub met : List ℕ
-    pub way : Way m gs x met
+    pub least-chain : Least-chain m gs x met
     pub walked : Walked m gs x met
     pub true-trace : True-trace m x met
 
   shown-start : (x : ℕ) → x ≡ m .start → Shown x
-  shown-start x e = rw e (record { met = m .start ∷ []; way = way-start m law gs b k floor; walked = home; true-trace = arrived })
+  shown-start x e = rw e (record { met = m .start ∷ []; least-chain = least-start m law gs b k bound; walked = at-start; true-trace = arrived })
 
-  pub shown : (n x : ℕ) → ahead m gs x < n → Firm m gs k x → Shown x
+  pub shown : (n x : ℕ) → ahead m gs x < n → Fixed m gs k x → Shown x
   shown zero x lt f = absurd (omega arith)
   shown (suc n) x lt f = ⊎-elim (shown-start x) (on (shown n)) (cases-eq x (m .start))
     where
-      on : ((y : ℕ) → ahead m gs y < n → Firm m gs k y → Shown y) → (x ≡ m .start → ⊥) → Shown x
+      on : ((y : ℕ) → ahead m gs y < n → Fixed m gs k y → Shown y) → (x ≡ m .start → ⊥) → Shown x
       on ih u =
-          let h : Move-by x = firm-move x u f in
+          let h : Move-by x = fixed-move x u f in
           let y = h .by in
-          let s : Shown (y .link .from) = ih (y .link .from) (omega (arith, from-ahead m law gs b k floor x y (f .opens) (f .low))) (firm-from x f y) in
+          let s : Shown (y .link .from) = ih (y .link .from) (omega (arith, from-ahead m law gs b k bound x y (f .opens) (f .low))) (fixed-from x f y) in
           record {
             met = x ∷ s .met;
-            way = way-more m law gs b k floor x y (f .opens) (f .low) (s .way);
-            walked = back x (h .taken) u (h .is) (ap is-open (h .cost-is) ∙ below-top-is-open (m .kind) (lookahead m gs x) (f .opens)) (subst (λ (z : ℕ). Walked m gs z (s .met)) (h .from-is) (s .walked));
+            least-chain = least-more m law gs b k bound x y (f .opens) (f .low) (s .least-chain);
+            walked = by-move x (h .taken) u (h .is) (ap is-open (h .cost-is) ∙ below-top-is-open (m .kind) (lookahead m gs x) (f .opens)) (subst (λ (z : ℕ). Walked m gs z (s .met)) (h .from-is) (s .walked));
             true-trace = moved x u (true-move x f h) (subst (λ (z : ℕ). True-trace m z (s .met)) (h .from-is) (s .true-trace))
           }
 
 module _ (m : Meaning) (law : Lawful m) (gs : List Price) (b : Bounds m gs) (t : settled m gs ≡ true) where
-  settled-firm : is-open (standing-at gs (m .goal)) ≡ true → Firm m gs (pair m gs (m .goal)) (m .goal)
-  settled-firm o =
+  settled-fixed : is-open (standing-at gs (m .goal)) ≡ true → Fixed m gs (pair m gs (m .goal)) (m .goal)
+  settled-fixed o =
       let s = settled-is m gs t in
       let e : stand m gs (m .goal) ≡ ahead m gs (m .goal) = ap (rank (m .kind)) (s .even) in
       record {
@@ -202,8 +202,8 @@ module _ (m : Meaning) (law : Lawful m) (gs : List Price) (b : Bounds m gs) (t :
   shows-cheapest o =
       let s = settled-is m gs t in
       let k = pair m gs (m .goal) in
-      let w : Shown m law gs b k (settled-floor m law gs b s) (m .goal) = shown m law gs b k (settled-floor m law gs b s) (suc (ahead m gs (m .goal))) (m .goal) (omega arith) (settled-firm o) in
-      let c : Chain m (m .goal) (w .met) (standing-at gs (m .goal)) = subst (Chain m (m .goal) (w .met)) (sym (s .even)) (w .way .chain) in
+      let w : Shown m law gs b k (settled-bound m law gs b s) (m .goal) = shown m law gs b k (settled-bound m law gs b s) (suc (ahead m gs (m .goal))) (m .goal) (omega arith) (settled-fixed o) in
+      let c : Chain m (m .goal) (w .met) (standing-at gs (m .goal)) = subst (Chain m (m .goal) (w .met)) (sym (s .even)) (w .least-chain .chain) in
       let f : length (w .met) ≤ places m = chain-few m law c in
       let r : reverse (reverse (w .met)) ≡ w .met = reverse-reverse (w .met) in
       (reverse (w .met), record {

@@ -63,14 +63,14 @@ table =
   ∷ row (priced beside 1 closed) (repaired beside (fresh beside)) closed 1 none
   ∷ []
 
-abbrev pub told : ℕ → ℕ → ℕ → Option Refusal
-told number n height = Some (record { by = number; link = Some n; height = height })
+abbrev pub refused-by : ℕ → ℕ → ℕ → Option Refusal
+refused-by number n height = Some (record { by = number; link = Some n; height = height })
 
 -- prices that are refused: of a held link, below the floor, of no link
 pub record Refused : Type 0 where
-  pub held : refusal guarded 1 (ms 3) ≡ told 7 1 1
-  pub low : refusal beside 1 (open-at (4 ∷ [])) ≡ told 8 1 0
-  pub unnamed : refusal beside 0 (open-at (5 ∷ [])) ≡ told 6 0 0
+  pub held : refusal guarded 1 (ms 3) ≡ refused-by 7 1 1
+  pub low : refusal beside 1 (open-at (4 ∷ [])) ≡ refused-by 8 1 0
+  pub unnamed : refusal beside 0 (open-at (5 ∷ [])) ≡ refused-by 6 0 0
 
 -- one chart, and standings, that meet every premise of the theorems
 pub record Premises-met : Type 0 where

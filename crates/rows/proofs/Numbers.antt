@@ -159,10 +159,10 @@ below-top-is-open k closed h = absurd (omega (arith, rank-closed k))
 below-top-is-open k (open-at xs) h = refl
 
 -- the sum of two open prices is open
-abbrev pub Clear : Kind → Price → Price → Type 0
-Clear k p q = is-open p ≡ true → is-open q ≡ true → is-open (sum k p q) ≡ true
+abbrev pub Uncapped : Kind → Price → Price → Type 0
+Uncapped k p q = is-open p ≡ true → is-open q ≡ true → is-open (sum k p q) ≡ true
 
-pub rank-sum : (k : Kind) (p q : Price) → Proper k p → Proper k q → Clear k p q → rank k (sum k p q) ≡ min (rank k p + rank k q) (top k)
+pub rank-sum : (k : Kind) (p q : Price) → Proper k p → Proper k q → Uncapped k p q → rank k (sum k p q) ≡ min (rank k p + rank k q) (top k)
 unfolding rank
 rank-sum k closed q f h c = omega arith
 rank-sum k (open-at xs) closed f h c = omega arith

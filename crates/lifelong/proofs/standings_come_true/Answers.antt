@@ -1,4 +1,4 @@
-use Rattle.lifelong.proofs.Picks.{next-taken}
+use Rattle.lifelong.proofs.Agreement.{next-taken}
 use Rattle.lifelong.proofs.Steps.{taken-lowered}
 use Rattle.lifelong.proofs.Traces.{closed-no-route, no-route-closed, settled-distance}
 use Rattle.lifelong.proofs.standings_come_true.Needs as need

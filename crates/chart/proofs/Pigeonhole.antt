@@ -49,11 +49,11 @@ still-distinct n (x ∷ xs) d = ⊎-elim
     (λ (e : eqb x n ≡ true). rw (hit n x xs e) (still-distinct n xs (d .1)))
     (λ (e : eqb x n ≡ false). rw (miss n x xs e) ((λ i. d .0 (left n xs x i .0)), still-distinct n xs (d .1))) (cases-bool (eqb x n))
 
-pub few : (n : ℕ) (xs : List ℕ) → Distinct xs → ((y : ℕ) → Among y xs → y < n) → length xs ≤ n
-few zero [] d b = omega arith
-few zero (x ∷ xs) d b = absurd (omega (arith, b x (inl refl)))
-few (suc n) xs d b =
-    let ih : length (without n xs) ≤ n = few n (without n xs) (still-distinct n xs d)
+pub pigeonhole : (n : ℕ) (xs : List ℕ) → Distinct xs → ((y : ℕ) → Among y xs → y < n) → length xs ≤ n
+pigeonhole zero [] d b = omega arith
+pigeonhole zero (x ∷ xs) d b = absurd (omega (arith, b x (inl refl)))
+pigeonhole (suc n) xs d b =
+    let ih : length (without n xs) ≤ n = pigeonhole n (without n xs) (still-distinct n xs d)
         (λ y i. let t = left n xs y i in let q = b y (t .0) in let r = t .1 in omega arith) in
     omega (arith, one-fewer n xs d)
 
@@ -71,7 +71,7 @@ distinct-map : {A : Type 0} (f : A → ℕ) → ((x y : A) → f x ≡ f y → x
 distinct-map f one [] d = tt
 distinct-map f one (x ∷ xs) d = ((λ i. let t = among-map f xs (f x) i in d .0 (subst (λ z. Among z xs) (sym (one x (t .0) (t .1 .1))) (t .1 .0))), distinct-map f one xs (d .1))
 
-pub few-of : {A : Type 0} (f : A → ℕ) → ((x y : A) → f x ≡ f y → x ≡ y) → (n : ℕ) (xs : List A) → Distinct xs → ((x : A) → Among x xs → f x < n) → length xs ≤ n
-few-of f one n xs d b =
-    let h : length (map f xs) ≤ n = few n (map f xs) (distinct-map f one xs d) (λ y i. let t = among-map f xs y i in subst (λ z. z < n) (sym (t .1 .1)) (b (t .0) (t .1 .0))) in
+pub pigeonhole-by : {A : Type 0} (f : A → ℕ) → ((x y : A) → f x ≡ f y → x ≡ y) → (n : ℕ) (xs : List A) → Distinct xs → ((x : A) → Among x xs → f x < n) → length xs ≤ n
+pigeonhole-by f one n xs d b =
+    let h : length (map f xs) ≤ n = pigeonhole n (map f xs) (distinct-map f one xs d) (λ y i. let t = among-map f xs y i in subst (λ z. z < n) (sym (t .1 .1)) (b (t .0) (t .1 .0))) in
     omega (arith, length-map xs f)
