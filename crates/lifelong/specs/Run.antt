@@ -3,6 +3,7 @@ use mathlib.Core.Path.{_≡_}
 use mathlib.Core.Bool.{Bool, true, false, cond}
 use mathlib.Core.List.{List, [], _∷_, _++_, map}
 use Prim.Native.Nat.{ℕ, zero, suc, _+_, _*_}
+use lib.Dec.{eqb}
 use Rattle.rows.specs.Rows.{Price}
 use Rattle.chart.specs.Meaning.{Meaning, places}
 use Rattle.std.specs.declared.option.Option.{Option}
@@ -41,6 +42,11 @@ repair m gs = run m (2 * places m) gs
 -- the places that a run expands
 abbrev pub expanded : Run → List ℕ
 expanded r = map (λ e. e .place) (r .steps)
+
+-- how often a place stands in a list
+abbrev pub how-often : ℕ → List ℕ → ℕ
+how-often x [] = 0
+how-often x (y ∷ ys) = cond (eqb y x) 1 0 + how-often x ys
 
 -- one run, then another from where it ends
 abbrev pub then-run : Run → Run → Run

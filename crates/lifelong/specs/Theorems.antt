@@ -12,7 +12,7 @@ use Rattle.chart.specs.Routes.{Among, Chain, Distinct, No-route, True-distance}
 use Rattle.std.specs.declared.option.Option.the-variants.{Some}
 use Rattle.lifelong.specs.Standings.{key, lookahead, standing-at}
 use Rattle.lifelong.specs.Step.{Steps-agree, next, settled, step}
-use Rattle.lifelong.specs.Run.{expanded, repair, run}
+use Rattle.lifelong.specs.Run.{expanded, how-often, repair, run}
 use Rattle.lifelong.specs.Bounds.{Always}
 
 -- what is computed is what the relations say, of any chart and any standings
@@ -43,10 +43,14 @@ abbrev pub Later-keys : Type 0
 Later-keys = Always (λ m gs. (p : ℕ) → next m gs ≡ Some p → (n q : ℕ) → next m (run m n (step m gs p) .left) ≡ Some q →
     key-less (key m (run m n (step m gs p) .left) q) (key m gs p) ≡ false)
 
--- Runs: no place is lowered twice or raised twice, so that two steps for each place suffice, and a repair ends settled.
+-- Runs: no place is lowered twice or raised twice, so none is expanded more than twice, two steps for each place
+-- suffice, and a repair ends settled.
 
 abbrev pub Never-twice : Type 0
 Never-twice = Always (λ m gs. (n : ℕ) → Distinct (run m n gs .steps))
+
+abbrev pub At-most-twice : Type 0
+At-most-twice = Always (λ m gs. (n x : ℕ) → how-often x (expanded (run m n gs)) ≤ 2)
 
 abbrev pub Few-steps : Type 0
 Few-steps = Always (λ m gs. (n : ℕ) → length (run m n gs .steps) ≤ 2 * places m)

@@ -4,7 +4,7 @@ ghost use Rattle.lifelong.specs.Bounds.{Closed-within, Keys-open, Priced-withi
 ghost use Rattle.lifelong.specs.Examples.{All-hold, Premises-met, Refused, table};
 ghost use Rattle.lifelong.specs.Run.{Runs-join};
 ghost use Rattle.lifelong.specs.Shown.{None-without-route, One-trace, One-true-trace, Shows-cheapest};
-ghost use Rattle.lifelong.specs.Theorems.{Closed-without-chain, Closed-without-route, Definitions-agree, Ends-settled, Few-steps, Later-keys, Lowered-true, Never-twice, Next-key, One-distance, Settled-true, Some-distance, True-kept, Zero-at-start};
+ghost use Rattle.lifelong.specs.Theorems.{At-most-twice, Closed-without-chain, Closed-without-route, Definitions-agree, Ends-settled, Few-steps, Later-keys, Lowered-true, Never-twice, Next-key, One-distance, Settled-true, Some-distance, True-kept, Zero-at-start};
 
 // What is computed is what the relations say, of any chart and any standings.
 pub fn the_step_is_as_the_relations_say() -> u8
@@ -38,9 +38,11 @@ pub fn keys_never_fall() -> u8
     0
 }
 
-// No place is lowered twice or raised twice, so two steps for each place suffice, and a repair ends settled.
+// No place is lowered twice or raised twice, so none is expanded more than twice, two steps for each place suffice,
+// and a repair ends settled.
 pub fn repairs_end_settled() -> u8
     ensures never_twice { λ _. ⌜ Never-twice ⌝ }
+    ensures at_most_twice { λ _. ⌜ At-most-twice ⌝ }
     ensures few { λ _. ⌜ Few-steps ⌝ }
     ensures settled { λ _. ⌜ Ends-settled ⌝ }
 {
