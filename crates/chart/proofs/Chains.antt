@@ -1,22 +1,21 @@
 -- What chains are like in a lawful chart, and that a place has one true distance.
-use mathlib.Core.Path.{_≡_, refl, sym, ap, subst, _∙_}
+use mathlib.Core.Path.{_≡_, refl, ap}
 use mathlib.Core.Logic.{_⊎_, inl, inr, ⊎-elim}
-use mathlib.Core.Bool.{Bool, true, false}
+use mathlib.Core.Bool.{true, false}
 use mathlib.Core.List.{List, [], _∷_}
-use Prim.Native.Nat.{ℕ, zero, suc, _+_, _≤_, _<_, min}
+use Prim.Native.Nat.{ℕ, suc, _≤_, _<_}
 use native.Mathlib.Omega.{arith}
 use lib.ListN.{length}
-use Rattle.std.proofs.shelf.Tests.{both-ways, cases-bool}
-use Rattle.rows.specs.Rows.{Price, Proper, closed, is-open, less, open-at, sum, zero-of}
+use Rattle.std.proofs.shelf.Tests.{both-ways}
+use Rattle.rows.specs.Rows.{Price, Proper, closed, is-open, less, open-at, zero-of}
 use Rattle.rows.proofs.Order.{less-total}
 use Rattle.rows.proofs.Numbers.{rank, rank-not-less, rank-open, rank-zero, top}
-use Rattle.chart.specs.Lawful.{Lawful, Lawful-link}
+use Rattle.chart.specs.Lawful.{Lawful}
 use Rattle.chart.specs.Limits.{Within}
-use Rattle.chart.specs.Meaning.{Link, Meaning, link-at, places}
+use Rattle.chart.specs.Meaning.{Meaning, places}
 use Rattle.chart.specs.Routes.{Among, Chain, Distinct, True-distance, begin, more}
 use Rattle.chart.proofs.Pigeonhole.{pigeonhole}
-use Rattle.chart.proofs.Limits.{uncapped-link, link-law, link-sum, low-proper, price-within, within-more, within-sum, within-zero, zero-proper}
-use Rattle.std.specs.declared.option.Option.the-variants.{Some}
+use Rattle.chart.proofs.Limits.{uncapped-link, link-law, low-proper, price-within, within-more, within-sum, within-zero, zero-proper}
 
 -- its last place stands first
 pub chain-head : (m : Meaning) {x : ℕ} {ps : List ℕ} {p : Price} → Chain m x ps p → (rest : List ℕ) × (ps ≡ x ∷ rest)

@@ -75,3 +75,9 @@ module _ (test : Option Link → Bool) (cost : Option Link → Price) where
         (λ (s : less (cost l) (least-over test cost ls) ≡ false). subst P (sym (least-take l ls t ∙ smaller-right (cost l) (least-over test cost ls) s)) (least-all P c ls (λ n. h (suc n))))
         (cases-bool (less (cost l) (least-over test cost ls))))
       (λ (f : test l ≡ false). subst P (sym (least-skip l ls f)) (least-all P c ls (λ n. h (suc n)))) (cases-bool (test l))
+
+-- equal costs have an equal least
+pub least-same : (test : Option Link → Bool) (cost other : Option Link → Price) (ls : List (Option Link)) → ((n : ℕ) → cost (getD ls n None) ≡ other (getD ls n None)) → least-over test cost ls ≡ least-over test other ls
+unfolding least-over
+least-same test cost other [] h = refl
+least-same test cost other (l ∷ ls) h = let r = least-same test cost other ls (λ n. h (suc n)) in λ i. cond (test l) (smaller (h 0 i) (r i)) (r i)

@@ -1,21 +1,20 @@
 -- In a lawful chart, prices of at most 4,096 links, also with an estimate, stay below the ceiling.
-use mathlib.Core.Path.{_≡_, refl, sym, ap, subst, _∙_}
-use mathlib.Core.Bool.{Bool, true, false, cond, _&&_}
+use mathlib.Core.Path.{_≡_, refl, ap, subst, _∙_}
+use mathlib.Core.Bool.{Bool, true, false, cond}
 use mathlib.Core.List.{List, [], _∷_}
-use Prim.Native.Nat.{ℕ, zero, suc, _+_, _*_, _≤_, _<_, min}
+use Prim.Native.Nat.{ℕ, zero, suc, _+_, _≤_, _<_, min}
 use native.Mathlib.Omega.{arith}
 use native.Mathlib.Nat.{mul-le-mul-right}
 use lib.Dec.{leb, ltb}
 use lib.ListN.{length, replicate}
 use Rattle.std.proofs.shelf.Tests.{and-from, and-parts, both-ways, cond-true, leb-true, lt-ltb}
-use Rattle.rows.specs.Rows.{Kind, Price, Proper, add-rows, all-below, at-most, capped, closed, is-open, less, linkable, open-at, smaller, sum, zero-of}
-use Rattle.rows.proofs.Sums.{add-rows-length, row-made}
+use Rattle.rows.specs.Rows.{Kind, Price, Proper, add-rows, all-below, at-most, closed, is-open, less, linkable, open-at, smaller, sum, zero-of}
+use Rattle.rows.proofs.Sums.{row-made}
 use Rattle.rows.proofs.Numbers.{Uncapped, less-rank, not-less-rank, rank, rank-sum, rank-zero, top}
 use Rattle.chart.specs.Lawful.{Estimate-law, Lawful, Lawful-link, Link-law, Room}
 use Rattle.chart.specs.Limits.{Each-within, Within}
 use Rattle.chart.specs.Meaning.{Link, Meaning, estimate-at, link-at, places}
-use Rattle.std.specs.declared.option.Option.{Option}
-use Rattle.std.specs.declared.option.Option.the-variants.{Some, None}
+use Rattle.std.specs.declared.option.Option.the-variants.{Some}
 
 -- rows
 

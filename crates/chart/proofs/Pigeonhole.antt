@@ -1,14 +1,14 @@
 -- Distinct numbers below n are at most n, and so are things that have such numbers.
 use mathlib.Core.Path.{_≡_, refl, sym, ap, subst, _∙_}
 use mathlib.Core.Logic.{_⊎_, inl, inr, ⊎-elim}
-use mathlib.Core.Bool.{Bool, true, false, cond}
+use mathlib.Core.Bool.{true, false, cond}
 use mathlib.Core.List.{List, [], _∷_, map}
-use Prim.Native.Nat.{ℕ, zero, suc, _+_, _≤_, _<_}
+use Prim.Native.Nat.{ℕ, zero, suc, _≤_, _<_}
 use native.Mathlib.Omega.{arith}
 use lib.Dec.{eqb}
 use lib.ListN.{length}
 use Rattle.std.proofs.shelf.Lists.{length-map}
-use Rattle.std.proofs.shelf.Tests.{cases-bool, cases-eq, cond-false, cond-true, eqb-false, eqb-true}
+use Rattle.std.proofs.shelf.Tests.{cases-bool, cond-false, cond-true, eqb-false, eqb-true}
 use Rattle.chart.specs.Routes.{Among, Distinct}
 
 abbrev without : ℕ → List ℕ → List ℕ

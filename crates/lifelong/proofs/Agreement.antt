@@ -1,12 +1,12 @@
 -- The place that a step takes, and when to stop: what is computed is what the relations say.
 use mathlib.Core.Path.{_≡_, refl, sym, ap, subst, _∙_}
-use mathlib.Core.Logic.{_⊎_, inl, inr, ⊎-elim}
+use mathlib.Core.Logic.{_⊎_, ⊎-elim}
 use mathlib.Core.Bool.{Bool, true, false, cond, not, _||_, _&&_}
 use mathlib.Core.List.{List}
 use Prim.Native.Nat.{ℕ, zero, suc, _<_, _≤_}
 use native.Mathlib.Omega.{arith}
 use lib.Dec.{ltb}
-use lib.ListN.{getD, length, set}
+use lib.ListN.{length}
 use Rattle.std.proofs.shelf.Lists.{ext-getD, getD-set-other, getD-set-same, length-set}
 use Rattle.std.proofs.shelf.Tests.{and-parts, both-ways, cases-bool, cases-eq, cond-false, cond-true, le-ltb, not-true, or-parts}
 use Rattle.rows.specs.Rows.{Price, closed, less}
@@ -17,7 +17,7 @@ use Rattle.chart.specs.Meaning.{Meaning, places}
 use Rattle.std.specs.declared.option.Option.{Option}
 use Rattle.std.specs.declared.option.Option.the-variants.{Some, None}
 use Rattle.lifelong.specs.Standings.{differ, key, lookahead, standing-at, uneven}
-use Rattle.lifelong.specs.Step.{Change, Changed, Even, Settled, Stepped, Steps-agree, Taken, below-goal, better, change-at, change-of, changed, lowered, next, next-below, raised, settled, step}
+use Rattle.lifelong.specs.Step.{Change, Changed, Even, Settled, Stepped, Steps-agree, Taken, below-goal, better, change-at, changed, lowered, next, next-below, raised, settled, step}
 
 before-self : (a : _) (p : ℕ) → before a p a p ≡ false
 before-self a p = ⊎-elim (λ t. before-one-way a a p p t) (λ f. f) (cases-bool (before a p a p))

@@ -1,15 +1,10 @@
 -- The bounds: when they hold, and what they give.
-use mathlib.Core.Path.{_≡_, refl, sym, subst}
-use mathlib.Core.Bool.{true}
-use mathlib.Core.List.{List}
-use Prim.Native.Nat.{ℕ, _<_, _≤_}
-use lib.ListN.{length}
-use Rattle.rows.specs.Rows.{Price, closed, smaller}
+use mathlib.Core.Path.{sym, subst}
+use Rattle.rows.specs.Rows.{smaller}
 use Rattle.chart.specs.Limits.{Within}
-use Rattle.chart.specs.Meaning.{Meaning, estimate-at, places}
 use Rattle.chart.proofs.Limits.{uncapped-estimate, uncapped-link, estimate-open, link-law, price-within}
 use Rattle.lifelong.specs.Standings.{key, lookahead, standing-at}
-use Rattle.lifelong.specs.Bounds.{Bounds, Closed-within, Keys-open, Priced-within, Sums-open}
+use Rattle.lifelong.specs.Bounds.{Closed-within, Keys-open, Priced-within, Sums-open}
 use Rattle.lifelong.proofs.Lookaheads.{own-within}
 
 pub closed-within : Closed-within

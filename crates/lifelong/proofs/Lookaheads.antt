@@ -1,13 +1,13 @@
 -- The lookahead: what it is at the start and along links, and how large it can be.
-use mathlib.Core.Path.{_≡_, refl, sym, ap, subst, _∙_}
+use mathlib.Core.Path.{_≡_, refl, _∙_}
 use mathlib.Core.Logic.{_⊎_, inl, inr, ⊎-elim}
-use mathlib.Core.Bool.{Bool, true, false, cond}
+use mathlib.Core.Bool.{true, false}
 use mathlib.Core.List.{List}
-use Prim.Native.Nat.{ℕ, _<_, _≤_}
+use Prim.Native.Nat.{ℕ, _<_}
 use native.Mathlib.Omega.{arith}
 use lib.Dec.{eqb}
 use Rattle.std.proofs.shelf.Tests.{both-ways, cases-eq, cond-false, cond-true, eq-eqb, eqb-true, ne-eqb}
-use Rattle.rows.specs.Rows.{Kind, Price, Proper, closed, is-open, less, smaller, sum, zero-of}
+use Rattle.rows.specs.Rows.{Price, Proper, is-open, less, smaller, sum, zero-of}
 use Rattle.chart.specs.Lawful.{Lawful}
 use Rattle.chart.specs.Limits.{Within}
 use Rattle.chart.specs.Meaning.{Link, Meaning, link-at, places}

@@ -1,14 +1,14 @@
 -- The move from a place is the nearest over the links into it.
 use mathlib.Core.Path.{_≡_, refl, sym, ap, subst, _∙_}
-use mathlib.Core.Logic.{_⊎_, inl, inr, ⊎-elim}
+use mathlib.Core.Logic.{_⊎_, ⊎-elim}
 use mathlib.Core.Bool.{Bool, true, false, cond}
 use mathlib.Core.List.{List, [], _∷_}
-use Prim.Native.Nat.{ℕ, zero, suc, _+_, _≤_, _<_}
+use Prim.Native.Nat.{ℕ, zero, suc, _+_, _≤_}
 use native.Mathlib.Omega.{arith}
-use lib.Dec.{eqb, ltb}
+use lib.Dec.{ltb}
 use lib.ListN.{getD}
 use Rattle.std.proofs.shelf.Tests.{both-ways, cases-bool, cond-false, cond-true, eq-eqb, eqb-true, le-ltb, ltb-false, ltb-true}
-use Rattle.rows.specs.Rows.{Kind, Price, is-open, less, sum}
+use Rattle.rows.specs.Rows.{Kind, Price, less, sum}
 use Rattle.rows.specs.Keys.{in-turn}
 use Rattle.rows.proofs.Keys.{in-turn-failed}
 use Rattle.rows.proofs.Lexicographic.{Chains, One-way, lex-chain, lex-one-way}

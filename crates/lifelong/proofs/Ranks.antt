@@ -1,13 +1,13 @@
 -- Standings, lookaheads and keys read as numbers. Under the bounds no sum reaches the ceiling, so that all that
 -- concerns order is arithmetic.
-use mathlib.Core.Path.{_≡_, refl, sym, ap, subst, _∙_}
+use mathlib.Core.Path.{_≡_, ap, _∙_}
 use mathlib.Core.Logic.{_⊎_, inl, inr, ⊎-elim}
-use mathlib.Core.Bool.{Bool, true, false, cond}
+use mathlib.Core.Bool.{true, false}
 use mathlib.Core.List.{List}
 use Prim.Native.Nat.{ℕ, _+_, _≤_, _<_, min}
 use native.Mathlib.Omega.{arith}
 use Rattle.std.proofs.shelf.Tests.{cases-eq, cases-lt}
-use Rattle.rows.specs.Rows.{Price, Proper, is-open, less, smaller, sum, zero-of}
+use Rattle.rows.specs.Rows.{Price, Proper, less, smaller, sum}
 use Rattle.rows.specs.Keys.{Key, key-less}
 use Rattle.rows.proofs.Keys.{in-turn-failed, in-turn-fails}
 use Rattle.rows.proofs.Sums.{sum-proper}

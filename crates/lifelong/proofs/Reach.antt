@@ -1,25 +1,25 @@
 -- Below the key of every uneven place, standings are true distances.
-use mathlib.Core.Path.{_≡_, refl, sym, ap, subst, _∙_}
+use mathlib.Core.Path.{_≡_, sym, ap, subst, _∙_}
 use mathlib.Core.Logic.{_⊎_, inl, inr, ⊎-elim}
-use mathlib.Core.Bool.{Bool, true, false}
+use mathlib.Core.Bool.{false}
 use mathlib.Core.List.{List, [], _∷_}
-use Prim.Native.Nat.{ℕ, zero, suc, _+_, _≤_, _<_, min}
+use Prim.Native.Nat.{ℕ, zero, suc, _≤_, _<_, min}
 use native.Mathlib.Omega.{arith}
 use Rattle.std.proofs.shelf.Tests.{cases-eq, cases-lt}
-use Rattle.rows.specs.Rows.{Price, Proper, closed, is-open, less, sum, zero-of}
+use Rattle.rows.specs.Rows.{Price, less, sum, zero-of}
 use Rattle.rows.proofs.Sums.{sum-proper}
-use Rattle.rows.proofs.Numbers.{below-top-is-open, not-less-rank, rank, rank-not-less, rank-sum, rank-zero, top-is-closed}
+use Rattle.rows.proofs.Numbers.{below-top-is-open, not-less-rank, rank, rank-not-less, rank-sum, top-is-closed}
 use Rattle.chart.specs.Lawful.{Consistent, Lawful}
 use Rattle.chart.specs.Meaning.{Link, Meaning, estimate-at, link-at, places}
 use Rattle.chart.specs.Routes.{Among, Chain, True-distance, begin, more}
-use Rattle.chart.proofs.Chains.{chain-in, chain-proper, chain-rank, chain-within, distance-by}
+use Rattle.chart.proofs.Chains.{chain-proper, chain-rank, chain-within, distance-by}
 use Rattle.chart.proofs.Limits.{uncapped-estimate, estimate-proper, floor-proper, floor-rank, floor-within, link-law, link-sum, price-rank, within-more}
 use Rattle.std.specs.declared.option.Option.the-variants.{Some}
-use Rattle.lifelong.specs.Standings.{lookahead, standing-at}
+use Rattle.lifelong.specs.Standings.{lookahead}
 use Rattle.lifelong.specs.Step.{Even}
 use Rattle.lifelong.specs.Bounds.{Bounds}
 use Rattle.lifelong.proofs.Lookaheads.{By, look-proper, look-start}
-use Rattle.lifelong.proofs.Ranks.{Before, Pair, Upto, ahead, ahead-below, ahead-by, ahead-capped, ahead-start, before-by, before-upto, cost, even-rank, heuristic, limit, or-even, over-link, pair, pair-at, plus, stand, upto-by}
+use Rattle.lifelong.proofs.Ranks.{Before, Pair, Upto, ahead, ahead-below, ahead-by, ahead-start, before-by, before-upto, cost, even-rank, heuristic, limit, or-even, over-link, pair, pair-at, plus, stand, upto-by}
 
 -- Along a link keys rise: the one place where the law of estimates is used.
 pub link-key : (m : Meaning) → Lawful m → (n : ℕ) (l : Link) → link-at m n ≡ Some l → (a b : ℕ) → a < limit m → plus m a (cost m l) ≤ b → Before (pair-at m (l .from) a) (pair-at m (l .to) b)

@@ -1,24 +1,24 @@
 -- Keys of successive steps never fall.
-use mathlib.Core.Path.{_≡_, refl, sym, ap, subst, _∙_}
+use mathlib.Core.Path.{_≡_, sym, ap, subst, _∙_}
 use mathlib.Core.Logic.{_⊎_, inl, inr, ⊎-elim}
-use mathlib.Core.Bool.{Bool, true, false}
+use mathlib.Core.Bool.{true, false}
 use mathlib.Core.List.{List}
-use Prim.Native.Nat.{ℕ, _+_, _≤_, _<_, min}
+use Prim.Native.Nat.{ℕ, _≤_, _<_, min}
 use native.Mathlib.Omega.{arith}
 use Rattle.std.proofs.shelf.Tests.{cases-bool, cases-eq, cases-lt, cases-order}
-use Rattle.rows.specs.Rows.{Price, closed, less}
+use Rattle.rows.specs.Rows.{Price, less}
 use Rattle.rows.specs.Keys.{key-less}
 use Rattle.rows.proofs.Numbers.{less-rank, rank, rank-closed}
 use Rattle.chart.specs.Lawful.{Lawful}
 use Rattle.chart.specs.Meaning.{Link, Meaning, link-at, places}
-use Rattle.chart.proofs.Limits.{link-law, price-rank}
+use Rattle.chart.proofs.Limits.{link-law}
 use Rattle.std.specs.declared.option.Option.the-variants.{Some}
 use Rattle.lifelong.specs.Standings.{key, lookahead, standing-at}
 use Rattle.lifelong.specs.Step.{Even, Taken, next, step}
 use Rattle.lifelong.specs.Bounds.{Bounds}
 use Rattle.lifelong.proofs.Lookaheads.{By, look-proper, stand-proper}
 use Rattle.lifelong.proofs.Agreement.{else-below, next-taken, step-elsewhere, step-lowered}
-use Rattle.lifelong.proofs.Ranks.{Before, Pair, Upto, ahead, ahead-below, ahead-by, ahead-capped, ahead-start, before-by, below-not, cost, even-rank, key-reads, limit, or-even, over-link, pair, pair-at, plus, stand, stand-capped, upto-by}
+use Rattle.lifelong.proofs.Ranks.{Before, Upto, ahead, ahead-below, ahead-by, ahead-capped, ahead-start, before-by, below-not, cost, even-rank, key-reads, limit, or-even, over-link, pair, pair-at, plus, stand, stand-capped}
 use Rattle.lifelong.proofs.Reach.{link-key}
 use Rattle.lifelong.proofs.Steps.{step-bounds, taken-bound, taken-raised}
 

@@ -1,9 +1,9 @@
 -- What one step does: a lowered place gets its true distance, a true standing is never taken, and bounds stay.
-use mathlib.Core.Path.{_≡_, refl, sym, ap, subst, _∙_}
-use mathlib.Core.Logic.{_⊎_, inl, inr, ⊎-elim}
-use mathlib.Core.Bool.{Bool, true, false}
+use mathlib.Core.Path.{_≡_, ap}
+use mathlib.Core.Logic.{_⊎_, ⊎-elim}
+use mathlib.Core.Bool.{true, false}
 use mathlib.Core.List.{List}
-use Prim.Native.Nat.{ℕ, _≤_, _<_, min}
+use Prim.Native.Nat.{ℕ, _≤_, _<_}
 use native.Mathlib.Omega.{arith}
 use lib.ListN.{length}
 use Rattle.std.proofs.shelf.Tests.{cases-bool, cases-eq}
@@ -12,17 +12,16 @@ use Rattle.rows.specs.Keys.{key-less}
 use Rattle.rows.proofs.Keys.{before-key}
 use Rattle.rows.proofs.Numbers.{less-rank, rank, rank-closed}
 use Rattle.chart.specs.Lawful.{Lawful}
-use Rattle.chart.specs.Limits.{Within}
 use Rattle.chart.specs.Meaning.{Meaning, places}
 use Rattle.chart.specs.Routes.{Chain, True-distance}
 use Rattle.chart.proofs.Chains.{distance-within, one-distance}
 use Rattle.std.specs.declared.option.Option.the-variants.{Some}
 use Rattle.lifelong.specs.Standings.{key, lookahead, standing-at}
-use Rattle.lifelong.specs.Step.{Even, Settled, Taken, next, step}
+use Rattle.lifelong.specs.Step.{Settled, Taken, next, step}
 use Rattle.lifelong.specs.Bounds.{Bounds}
 use Rattle.lifelong.proofs.Lookaheads.{look-proper, stand-proper}
 use Rattle.lifelong.proofs.Agreement.{else-below, next-taken, step-elsewhere, step-long, step-lowered, step-raised}
-use Rattle.lifelong.proofs.Ranks.{Before, Upto, ahead, ahead-capped, key-reads, limit, not-below, pair, pair-at, stand, upto-by}
+use Rattle.lifelong.proofs.Ranks.{Upto, ahead, ahead-capped, key-reads, limit, not-below, pair, pair-at, stand, upto-by}
 use Rattle.lifelong.proofs.Reach.{Lower-bound, look-true, reach-ahead}
 
 module _ (m : Meaning) (law : Lawful m) (gs : List Price) (b : Bounds m gs) where

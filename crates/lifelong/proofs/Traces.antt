@@ -1,18 +1,18 @@
 -- A settled trace shows the cheapest route, and one that the chart alone fixes.
 use mathlib.Core.Path.{_≡_, refl, sym, ap, subst, _∙_}
-use mathlib.Core.Logic.{_⊎_, inl, inr, ⊎-elim}
-use mathlib.Core.Bool.{Bool, true, false, cond}
+use mathlib.Core.Logic.{_⊎_, ⊎-elim}
+use mathlib.Core.Bool.{true, false, cond}
 use mathlib.Core.List.{List, [], _∷_, reverse}
-use Prim.Native.Nat.{ℕ, zero, suc, _+_, _≤_, _<_, min}
+use Prim.Native.Nat.{ℕ, zero, suc, _≤_, _<_}
 use native.Mathlib.Omega.{arith}
 use lib.Dec.{eqb}
 use lib.ListN.{length}
 use Rattle.std.proofs.shelf.Lists.{length-reverse, reverse-reverse}
 use Rattle.std.proofs.shelf.Tests.{both-ways, cases-bool, cases-eq, cases-lt, cond-false, cond-true, eq-eqb, ne-eqb}
 use Rattle.rows.specs.Rows.{Price, Proper, closed, is-open, less, open-at, sum}
-use Rattle.rows.proofs.Order.{less-self, less-total}
+use Rattle.rows.proofs.Order.{less-total}
 use Rattle.rows.proofs.Sums.{sum-proper}
-use Rattle.rows.proofs.Numbers.{below-top-is-open, less-rank, rank, rank-closed, rank-not-less, rank-open, rank-same}
+use Rattle.rows.proofs.Numbers.{below-top-is-open, rank, rank-closed, rank-not-less, rank-open, rank-same}
 use Rattle.chart.specs.Lawful.{Lawful}
 use Rattle.chart.specs.Meaning.{Link, Meaning, link-at, places}
 use Rattle.chart.specs.Routes.{Chain, No-route, True-distance}
@@ -22,14 +22,14 @@ use Rattle.chart.proofs.Prices.{least-price}
 use Rattle.std.specs.declared.option.Option.{Option}
 use Rattle.std.specs.declared.option.Option.the-variants.{Some, None}
 use Rattle.lifelong.specs.Standings.{lookahead, standing-at}
-use Rattle.lifelong.specs.Step.{Even, Settled, settled}
+use Rattle.lifelong.specs.Step.{Even, settled}
 use Rattle.lifelong.specs.Bounds.{Bounds}
 use Rattle.lifelong.specs.Shown.{Cheapest, One-trace, One-true-trace}
 use Rattle.lifelong.specs.Trace.{Move, True-move, True-trace, arrived, move, moved, moving, none, onto, shows, trace, traced, walk}
 use Rattle.lifelong.proofs.Lookaheads.{By, look-below, look-proper, stand-proper}
 use Rattle.lifelong.proofs.Moves.{Nearest, move-of, no-move, not-nearer, the-move}
 use Rattle.lifelong.proofs.Ranks.{Before, Pair, Upto, ahead, ahead-below, ahead-by, before-upto, cost, limit, over-link, pair, pair-at, plus, stand, upto-by}
-use Rattle.lifelong.proofs.Reach.{Lower-bound, Least-chain, by-value, even-below, from-ahead, from-even, from-low, link-key, look-true, reach, least-more, least-start}
+use Rattle.lifelong.proofs.Reach.{Lower-bound, Least-chain, from-ahead, from-even, from-low, link-key, look-true, reach, least-more, least-start}
 use Rattle.lifelong.proofs.Agreement.{settled-is}
 use Rattle.lifelong.proofs.Steps.{settled-bound, settled-true}
 

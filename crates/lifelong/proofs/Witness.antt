@@ -1,13 +1,12 @@
 -- The chart of three places meets the laws.
-use mathlib.Core.Path.{_≡_, refl}
-use mathlib.Core.List.{[], _∷_}
+use mathlib.Core.Path.{refl}
 use Prim.Native.Nat.{ℕ, zero, suc, _<_}
 use native.Mathlib.Omega.{arith}
 use Rattle.std.proofs.shelf.Lists.{getD-replicate}
 use Rattle.rows.specs.Rows.{closed}
 use Rattle.price.specs.Kinds.{lift-kind}
-use Rattle.chart.specs.Lawful.{Consistent, Estimate-law, Lawful, Lawful-link, Link-law}
-use Rattle.chart.specs.Meaning.{Link, estimate-at, link-at}
+use Rattle.chart.specs.Lawful.{Consistent, Estimate-law, Lawful, Link-law}
+use Rattle.chart.specs.Meaning.{estimate-at, link-at}
 use Rattle.chart.specs.Routes.{least-over}
 use Rattle.chart.proofs.Chains.{start-distance}
 use Rattle.lifelong.specs.Standings.{key, lookahead, uneven}

@@ -1,5 +1,5 @@
 -- The charts of the worked examples.
-use mathlib.Core.List.{List, [], _∷_}
+use mathlib.Core.List.{[], _∷_}
 use Prim.Native.Nat.{ℕ}
 use Rattle.rows.specs.Rows.{Price, closed, open-at}
 use Rattle.price.specs.Kinds.{lift-kind, time-kind}

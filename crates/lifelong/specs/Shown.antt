@@ -1,6 +1,6 @@
 -- What a trace of settled standings shows.
 use mathlib.Core.Path.{_≡_}
-use mathlib.Core.Bool.{Bool, true, false}
+use mathlib.Core.Bool.{true, false}
 use mathlib.Core.List.{List, reverse}
 use Prim.Native.Nat.{ℕ, _≤_}
 use lib.ListN.{length}

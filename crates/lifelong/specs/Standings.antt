@@ -1,6 +1,6 @@
 -- Standings, lookaheads, uneven places and their keys. Standings are a list, one for each place; the list may be
 -- longer than the chart has places, and what lies past them is never read.
-use mathlib.Core.Bool.{Bool, true, false, cond, _||_}
+use mathlib.Core.Bool.{Bool, cond, _||_}
 use mathlib.Core.List.{List}
 use Prim.Native.Nat.{ℕ}
 use lib.Dec.{eqb}

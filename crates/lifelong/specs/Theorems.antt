@@ -1,8 +1,8 @@
 -- What holds of steps, runs and repairs.
 use mathlib.Core.Path.{_≡_}
-use mathlib.Core.Bool.{Bool, true, false}
+use mathlib.Core.Bool.{true, false}
 use mathlib.Core.List.{List}
-use Prim.Native.Nat.{ℕ, _*_, _≤_}
+use Prim.Native.Nat.{ℕ, _*_, _<_, _≤_}
 use lib.ListN.{length}
 use Rattle.rows.specs.Rows.{Price, closed, less, zero-of}
 use Rattle.rows.specs.Keys.{key-less}
@@ -13,6 +13,7 @@ use Rattle.std.specs.declared.option.Option.the-variants.{Some}
 use Rattle.lifelong.specs.Standings.{key, lookahead, standing-at}
 use Rattle.lifelong.specs.Step.{Steps-agree, next, settled, step}
 use Rattle.lifelong.specs.Run.{expanded, how-often, repair, run}
+use Rattle.lifelong.specs.Trace.{trace}
 use Rattle.lifelong.specs.Bounds.{Always}
 
 -- what is computed is what the relations say, of any chart and any standings
@@ -74,3 +75,18 @@ Closed-without-route = Always (λ m gs. settled m gs ≡ true →
 abbrev pub True-kept : Type 0
 True-kept = Always (λ m gs. (n x : ℕ) → True-distance m x (standing-at gs x) →
     (Among x (expanded (run m n gs)) → ⊥) × True-distance m x (standing-at (run m n gs .left) x))
+
+-- What lies past the places is never read: where two lists of standings agree at the places, all answers are the same.
+
+abbrev pub Agree : Meaning → List Price → List Price → Type 0
+Agree m gs hs = (p : ℕ) → p < places m → standing-at gs p ≡ standing-at hs p
+
+pub record Same-answers (m : Meaning) (gs hs : List Price) : Type 0 where
+  pub next-same : next m gs ≡ next m hs
+  pub settled-same : settled m gs ≡ settled m hs
+  pub run-same : (n : ℕ) → run m n gs .steps ≡ run m n hs .steps
+  pub left-same : (n : ℕ) → Agree m (run m n gs .left) (run m n hs .left)
+  pub trace-same : trace m gs ≡ trace m hs
+
+abbrev pub Past-unread : Type 0
+Past-unread = (m : Meaning) → Lawful m → (gs hs : List Price) → places m ≤ length gs → places m ≤ length hs → Agree m gs hs → Same-answers m gs hs

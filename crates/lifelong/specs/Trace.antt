@@ -1,10 +1,10 @@
 -- The trace by standings: from the goal back to the start.
 use mathlib.Core.Path.{_≡_}
-use mathlib.Core.Bool.{Bool, true, false, cond}
+use mathlib.Core.Bool.{Bool, false, cond}
 use mathlib.Core.List.{List, [], _∷_, reverse}
 use Prim.Native.Nat.{ℕ, zero, suc, _≤_}
 use lib.Dec.{eqb, ltb}
-use Rattle.rows.specs.Rows.{Kind, Price, closed, is-open, less, sum}
+use Rattle.rows.specs.Rows.{Kind, Price, is-open, less, sum}
 use Rattle.rows.specs.Keys.{in-turn}
 use Rattle.chart.specs.Meaning.{Link, Meaning, link-at, places}
 use Rattle.chart.specs.Questions.{leads-into}

@@ -4,7 +4,7 @@ ghost use Rattle.lifelong.specs.Bounds.{Closed-within, Keys-open, Priced-withi
 ghost use Rattle.lifelong.specs.Examples.{All-hold, Premises-met, Refused, table};
 ghost use Rattle.lifelong.specs.Run.{Runs-join};
 ghost use Rattle.lifelong.specs.Shown.{None-without-route, One-trace, One-true-trace, Shows-cheapest};
-ghost use Rattle.lifelong.specs.Theorems.{At-most-twice, Closed-without-chain, Closed-without-route, Definitions-agree, Ends-settled, Few-steps, Later-keys, Lowered-true, Never-twice, Next-key, One-distance, Settled-true, Some-distance, True-kept, Zero-at-start};
+ghost use Rattle.lifelong.specs.Theorems.{At-most-twice, Closed-without-chain, Closed-without-route, Definitions-agree, Ends-settled, Few-steps, Later-keys, Lowered-true, Never-twice, Next-key, One-distance, Past-unread, Settled-true, Some-distance, True-kept, Zero-at-start};
 
 // What is computed is what the relations say, of any chart and any standings.
 pub fn the_step_is_as_the_relations_say() -> u8
@@ -89,6 +89,13 @@ pub fn sums_stay_below_the_ceiling() -> u8
 // Two settled standings over one chart show one route, whatever came before.
 pub fn equal_charts_equal_routes() -> u8
     ensures { λ _. ⌜ One-trace ⌝ }
+{
+    0
+}
+
+// What lies past the places in the list of standings is never read.
+pub fn standings_past_the_places_are_not_read() -> u8
+    ensures { λ _. ⌜ Past-unread ⌝ }
 {
     0
 }
