@@ -12,7 +12,7 @@ use Rattle.rows.proofs.Sums.{sum-assoc, sum-comm, sum-proper}
 use Rattle.rows.proofs.Numbers.{below-top-is-open, not-less-rank, rank, rank-not-less, rank-open}
 use Rattle.chart.specs.Lawful.{Lawful}
 use Rattle.chart.specs.Meaning.{Link, Meaning, link-at}
-use Rattle.chart.specs.Routes.{Among, Chain, True-distance, begin, cheapest, joins, more, places-price, price-along, price-of}
+use Rattle.chart.specs.Routes.{Among, Chain, True-distance, begin, cheapest, joins, more, places-price, price-along, link-price}
 use Rattle.chart.proofs.Chains.{chain-head, chain-proper, chain-within}
 use Rattle.chart.proofs.Least.{least-all, least-below, least-met}
 use Rattle.chart.proofs.Limits.{link-sum, price-proper, zero-proper}
@@ -28,21 +28,21 @@ record Joining (m : Meaning) (a b : ℕ) (p : Price) : Type 0 where
   to-is : link .to ≡ b
   price-is : link .price ≡ p
 
-joining : (m : Meaning) (a b n : ℕ) (p : Price) (o : Option Link) → link-at m n ≡ o → joins a b o ≡ true → p ≡ price-of o → Joining m a b p
+joining : (m : Meaning) (a b n : ℕ) (p : Price) (o : Option Link) → link-at m n ≡ o → joins a b o ≡ true → p ≡ link-price o → Joining m a b p
 joining m a b n p None e j g = absurd (both-ways false refl j)
 joining m a b n p (Some l) e j g = let t = and-parts (eqb (l .from) a) (eqb (l .to) b) j in
     record { number = n; link = l; named = e; from-is = eqb-true (l .from) a (t .0); to-is = eqb-true (l .to) b (t .1); price-is = sym g }
 
 cheapest-met : (m : Meaning) (a b : ℕ) → is-open (cheapest m a b) ≡ true → Joining m a b (cheapest m a b)
-cheapest-met m a b o = let t = least-met (joins a b) price-of (m .links) o in joining m a b (t .number) (cheapest m a b) (link-at m (t .number)) refl (t .passes) (t .gives)
+cheapest-met m a b o = let t = least-met (joins a b) link-price (m .links) o in joining m a b (t .number) (cheapest m a b) (link-at m (t .number)) refl (t .passes) (t .gives)
 
 module _ (m : Meaning) (law : Lawful m) where
-  named-proper : (n : ℕ) (o : Option Link) → link-at m n ≡ o → Proper (m .kind) (price-of o)
+  named-proper : (n : ℕ) (o : Option Link) → link-at m n ≡ o → Proper (m .kind) (link-price o)
   named-proper n None e = tt
   named-proper n (Some l) e = price-proper m law n l e
 
   between-proper : (a b : ℕ) → Proper (m .kind) (cheapest m a b)
-  between-proper a b = least-all (joins a b) price-of (Proper (m .kind)) tt (m .links) (λ n. named-proper n (link-at m n) refl)
+  between-proper a b = least-all (joins a b) link-price (Proper (m .kind)) tt (m .links) (λ n. named-proper n (link-at m n) refl)
 
   along-proper : (a : ℕ) (ps : List ℕ) → Proper (m .kind) (price-along m a ps)
   unfolding price-along
@@ -89,7 +89,7 @@ module _ (m : Meaning) (law : Lawful m) where
       let is : places-price m (reverse (b ∷ ps)) ≡ sum (m .kind) q d =
           subst (λ (xs : List ℕ). places-price m (reverse (b ∷ xs)) ≡ sum (m .kind) (places-price m (reverse xs)) d) (sym (rest .1)) (back-more (rest .0) a b) in
       let lo : rank (m .kind) d ≤ rank (m .kind) (l .price) = not-less-rank (m .kind) (l .price) d (price-proper m law n l e) (between-proper a b)
-          (least-below (joins a b) price-of (m .links) n l e (and-from (eqb a a) (eqb b b) (eq-eqb a a refl) (eq-eqb b b refl))) in
+          (least-below (joins a b) link-price (m .links) n l e (and-from (eqb a a) (eqb b b) (eq-eqb a a refl) (eq-eqb b b refl))) in
       let top-above = rank-open (m .kind) (l .price) (price-proper m law n l e) o in
       let j : Joining m a b d = cheapest-met m a b (below-top-is-open (m .kind) d (omega arith)) in
       let k = j .link in

@@ -49,13 +49,13 @@ abbrev pub joins : ℕ → ℕ → Option Link → Bool
 joins a b None = false
 joins a b (Some l) = eqb (l .from) a && eqb (l .to) b
 
-abbrev pub price-of : Option Link → Price
-price-of None = closed
-price-of (Some l) = l .price
+abbrev pub link-price : Option Link → Price
+link-price None = closed
+link-price (Some l) = l .price
 
 -- the lowest price of the links from place a to place b, closed if none is open
 abbrev pub cheapest : Meaning → ℕ → ℕ → Price
-cheapest m a b = least-over (joins a b) price-of (m .links)
+cheapest m a b = least-over (joins a b) link-price (m .links)
 
 -- the price from a place on, along a list of places, by the cheapest open links between neighbours
 unfoldable pub price-along : Meaning → ℕ → List ℕ → Price

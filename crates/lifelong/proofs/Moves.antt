@@ -18,7 +18,7 @@ use Rattle.chart.specs.Questions.{leads-into}
 use Rattle.std.specs.declared.option.Option.{Option}
 use Rattle.std.specs.declared.option.Option.the-variants.{Some, None}
 use Rattle.lifelong.specs.Standings.{standing-at}
-use Rattle.lifelong.specs.Trace.{Move, best-move, move, nearer, nearest}
+use Rattle.lifelong.specs.Trace.{Move, best-move, move, move-over, nearer, nearest}
 
 -- the order of moves
 
@@ -132,13 +132,21 @@ module _ (k : Kind) (gs : List Price) (x : ℕ) where
   taken n l ls None t h = head-first n l ls t (λ j i d s. absurd (h j i d s))
   taken n l ls (Some a) t h = subst (Best n (Some l ∷ ls)) (sym (some-cond (nearer a (move-of k gs n l)) a (move-of k gs n l))) (chosen n l ls a (nearer a (move-of k gs n l)) refl t h)
 
+  pub move-skip : (n : ℕ) (o : Option Link) (ls : List (Option Link)) → leads-into x o ≡ false → best-move k gs x n (o ∷ ls) ≡ best-move k gs x (suc n) ls
+  unfolding best-move
+  move-skip n o ls f = cond-false (leads-into x o) (nearest (move-over k gs n o) (best-move k gs x (suc n) ls)) (best-move k gs x (suc n) ls) f
+
+  pub move-take : (n : ℕ) (o : Option Link) (ls : List (Option Link)) → leads-into x o ≡ true → best-move k gs x n (o ∷ ls) ≡ nearest (move-over k gs n o) (best-move k gs x (suc n) ls)
+  unfolding best-move
+  move-take n o ls t = cond-true (leads-into x o) (nearest (move-over k gs n o) (best-move k gs x (suc n) ls)) (best-move k gs x (suc n) ls) t
+
   best : (n : ℕ) (ls : List (Option Link)) → Best n ls (best-move k gs x n ls)
   unfolding best-move
   best n [] = λ j l e t. let z : _≡_ {A = ℕ} 0 1 = cc in omega arith
   best n (None ∷ ls) = passed n None ls (best-move k gs x (suc n) ls) refl (best (suc n) ls)
   best n (Some l ∷ ls) = ⊎-elim
-      (λ (t : leads-into x (Some l) ≡ true). subst (Best n (Some l ∷ ls)) (sym (cond-true (leads-into x (Some l)) (nearest (Some (move-of k gs n l)) (best-move k gs x (suc n) ls)) (best-move k gs x (suc n) ls) t)) (taken n l ls (best-move k gs x (suc n) ls) t (best (suc n) ls)))
-      (λ (f : leads-into x (Some l) ≡ false). subst (Best n (Some l ∷ ls)) (sym (cond-false (leads-into x (Some l)) (nearest (Some (move-of k gs n l)) (best-move k gs x (suc n) ls)) (best-move k gs x (suc n) ls) f)) (passed n (Some l) ls (best-move k gs x (suc n) ls) f (best (suc n) ls)))
+      (λ (t : leads-into x (Some l) ≡ true). subst (Best n (Some l ∷ ls)) (sym (move-take n (Some l) ls t)) (taken n l ls (best-move k gs x (suc n) ls) t (best (suc n) ls)))
+      (λ (f : leads-into x (Some l) ≡ false). subst (Best n (Some l ∷ ls)) (sym (move-skip n (Some l) ls f)) (passed n (Some l) ls (best-move k gs x (suc n) ls) f (best (suc n) ls)))
       (cases-bool (leads-into x (Some l)))
 
 -- a move, the link that it takes, and that no other link into the place is nearer

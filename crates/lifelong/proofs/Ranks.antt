@@ -21,17 +21,21 @@ use Rattle.lifelong.specs.Step.{Even}
 use Rattle.lifelong.specs.Bounds.{Bounds}
 use Rattle.lifelong.proofs.Lookaheads.{By, look-below, look-by, look-proper, look-start, own-within, stand-proper}
 
+-- the number of a price of the chart's kind
+abbrev pub number : Meaning → Price → ℕ
+number m p = rank (m .kind) p
+
 abbrev pub stand : Meaning → List Price → ℕ → ℕ
-stand m gs x = rank (m .kind) (standing-at gs x)
+stand m gs x = number m (standing-at gs x)
 
 abbrev pub ahead : Meaning → List Price → ℕ → ℕ
-ahead m gs x = rank (m .kind) (lookahead m gs x)
+ahead m gs x = number m (lookahead m gs x)
 
 abbrev pub heuristic : Meaning → ℕ → ℕ
-heuristic m x = rank (m .kind) (estimate-at m x)
+heuristic m x = number m (estimate-at m x)
 
 abbrev pub cost : Meaning → Link → ℕ
-cost m l = rank (m .kind) (l .price)
+cost m l = number m (l .price)
 
 abbrev pub limit : Meaning → ℕ
 limit m = top (m .kind)
@@ -80,8 +84,8 @@ before-upto a b c p q = before-by a c (λ w. omega arith)
 
 -- a key and its numbers
 pub record Reads (m : Meaning) (k : Key) (n : Pair) : Type 0 where
-  pub whole : rank (m .kind) (k .whole) ≡ n .whole
-  pub own : rank (m .kind) (k .own) ≡ n .own
+  pub whole : number m (k .whole) ≡ n .whole
+  pub own : number m (k .own) ≡ n .own
   pub whole-proper : Proper (m .kind) (k .whole)
   pub own-proper : Proper (m .kind) (k .own)
 
@@ -89,7 +93,7 @@ module _ (m : Meaning) (a b : Key) (p q : Pair) (s : Reads m a p) (t : Reads m b
   pub not-below : key-less a b ≡ false → Upto q p
   not-below h =
       let f = in-turn-failed (less (a .whole) (b .whole)) (less (b .whole) (a .whole)) (less (a .own) (b .own)) h in
-      let w : rank (m .kind) (b .whole) ≤ rank (m .kind) (a .whole) = not-less-rank (m .kind) (a .whole) (b .whole) (s .whole-proper) (t .whole-proper) (f .0) in
+      let w : number m (b .whole) ≤ number m (a .whole) = not-less-rank (m .kind) (a .whole) (b .whole) (s .whole-proper) (t .whole-proper) (f .0) in
       ⊎-elim
         (λ (e : less (b .whole) (a .whole) ≡ true). inl (omega (arith, less-rank (m .kind) (b .whole) (a .whole) (t .whole-proper) (s .whole-proper) e, s .whole, t .whole)))
         (λ (e : less (a .own) (b .own) ≡ false). upto-by q p (λ v. omega (arith, w, not-less-rank (m .kind) (a .own) (b .own) (s .own-proper) (t .own-proper) e, s .whole, t .whole, s .own, t .own)))
@@ -110,10 +114,10 @@ module _ (m : Meaning) (law : Lawful m) (gs : List Price) (b : Bounds m gs) wher
   stand-capped x l = rank-capped (m .kind) (standing-at gs x) (stand-proper m law gs b x l)
 
   pub ahead-start : ahead m gs (m .start) ≡ 0
-  ahead-start = ap (rank (m .kind)) (look-start m gs) ∙ rank-zero (m .kind)
+  ahead-start = ap (number m) (look-start m gs) ∙ rank-zero (m .kind)
 
   -- the sum over a link
-  pub over-link : (n : ℕ) (l : Link) → link-at m n ≡ Some l → rank (m .kind) (sum (m .kind) (standing-at gs (l .from)) (l .price)) ≡ plus m (stand m gs (l .from)) (cost m l)
+  pub over-link : (n : ℕ) (l : Link) → link-at m n ≡ Some l → number m (sum (m .kind) (standing-at gs (l .from)) (l .price)) ≡ plus m (stand m gs (l .from)) (cost m l)
   over-link n l e = link-sum m law n l e (standing-at gs (l .from)) (b .low (l .from) (link-law m law n l e .from-in))
 
   over-proper : (n : ℕ) (l : Link) → link-at m n ≡ Some l → Proper (m .kind) (sum (m .kind) (standing-at gs (l .from)) (l .price))
@@ -139,7 +143,7 @@ module _ (m : Meaning) (law : Lawful m) (gs : List Price) (b : Bounds m gs) wher
       let a = lookahead m gs x in
       let sp = stand-proper m law gs b x l in
       let ap′ = look-proper m law gs b x in
-      let r : rank (m .kind) (smaller s a) ≡ min (stand m gs x) (ahead m gs x) = rank-smaller (m .kind) s a sp ap′ in
+      let r : number m (smaller s a) ≡ min (stand m gs x) (ahead m gs x) = rank-smaller (m .kind) s a sp ap′ in
       let p = smaller-proper (m .kind) s a sp ap′ in
       record {
         whole = rank-sum (m .kind) (smaller s a) (estimate-at m x) p (estimate-proper m law x l) (uncapped-estimate m law (smaller s a) x l (own-within m law gs b x l)) ∙ ap (λ (v : ℕ). plus m v (heuristic m x)) r;

@@ -19,7 +19,7 @@ use Rattle.lifelong.specs.Standings.{lookahead}
 use Rattle.lifelong.specs.Step.{Even}
 use Rattle.lifelong.specs.Bounds.{Bounds}
 use Rattle.lifelong.proofs.Lookaheads.{By, look-proper, look-start}
-use Rattle.lifelong.proofs.Ranks.{Before, Pair, Upto, ahead, ahead-below, ahead-by, ahead-start, before-by, before-upto, cost, even-rank, heuristic, limit, or-even, over-link, pair, pair-at, plus, stand, upto-by}
+use Rattle.lifelong.proofs.Ranks.{Before, Pair, Upto, ahead, ahead-below, ahead-by, ahead-start, before-by, before-upto, cost, even-rank, heuristic, limit, number, or-even, over-link, pair, pair-at, plus, stand, upto-by}
 
 -- Along a link keys rise: the one place where the law of estimates is used.
 pub link-key : (m : Meaning) → Lawful m → (n : ℕ) (l : Link) → link-at m n ≡ Some l → (a b : ℕ) → a < limit m → plus m a (cost m l) ≤ b → Before (pair-at m (l .from) a) (pair-at m (l .to) b)
@@ -52,31 +52,38 @@ module _ (m : Meaning) (law : Lawful m) (gs : List Price) (b : Bounds m gs) (k :
   -- below k places are even
   pub even-below : (x v : ℕ) → x < places m → min (stand m gs x) (ahead m gs x) ≤ v → Before (pair-at m x v) k → Even m gs x
   even-below x v l le h = ⊎-elim (λ (e : stand m gs x ≡ ahead m gs x). even-rank m law gs b x l e)
-      (λ (u : stand m gs x ≡ ahead m gs x → ⊥). let w : Upto k (pair m gs x) = low x l (λ e. u (ap (rank (m .kind)) e)) in absurd (omega arith)) (cases-eq (stand m gs x) (ahead m gs x))
+      (λ (u : stand m gs x ≡ ahead m gs x → ⊥). let w : Upto k (pair m gs x) = low x l (λ e. u (ap (number m) e)) in absurd (omega arith)) (cases-eq (stand m gs x) (ahead m gs x))
+
+  -- where a chain's key is at most k, that of the chain up to its last link is below k
+  last-link : (n : ℕ) (l : Link) → link-at m n ≡ Some l → {ps : List ℕ} {p : Price} → Chain m (l .from) ps p →
+      Upto (pair-at m (l .to) (number m (sum (m .kind) p (l .price)))) k → Before (pair-at m (l .from) (number m p)) k
+  last-link n l e {p = p} c u =
+      let v = number m (sum (m .kind) p (l .price)) in
+      let s : v ≡ plus m (number m p) (cost m l) = link-sum m law n l e p (chain-within m law c) in
+      let first : Before (pair-at m (l .from) (number m p)) (pair-at m (l .to) v) = link-key m law n l e (number m p) v (chain-rank m law c) (omega arith) in
+      before-upto (pair-at m (l .from) (number m p)) (pair-at m (l .to) v) k first u
 
   -- a chain whose key is below k bounds the standing of its last place
-  pub reach : {x : ℕ} {ps : List ℕ} {p : Price} → Chain m x ps p → Before (pair-at m x (rank (m .kind) p)) k → stand m gs x ≤ rank (m .kind) p
+  pub reach : {x : ℕ} {ps : List ℕ} {p : Price} → Chain m x ps p → Before (pair-at m x (number m p)) k → stand m gs x ≤ number m p
   reach begin h =
       let z : ahead m gs (m .start) ≡ 0 = ahead-start m law gs b in
-      let e : stand m gs (m .start) ≡ ahead m gs (m .start) = ap (rank (m .kind)) (even-below (m .start) (rank (m .kind) (zero-of (m .kind))) (law .start-in) (omega arith) h) in
+      let e : stand m gs (m .start) ≡ ahead m gs (m .start) = ap (number m) (even-below (m .start) (number m (zero-of (m .kind))) (law .start-in) (omega arith) h) in
       omega arith
   reach (more {p = p} n l e o c f) h =
-      let s : rank (m .kind) (sum (m .kind) p (l .price)) ≡ plus m (rank (m .kind) p) (cost m l) = link-sum m law n l e p (chain-within m law c) in
-      let lt : rank (m .kind) p < limit m = chain-rank m law c in
-      let first : Before (pair-at m (l .from) (rank (m .kind) p)) (pair-at m (l .to) (rank (m .kind) (sum (m .kind) p (l .price)))) = link-key m law n l e (rank (m .kind) p) (rank (m .kind) (sum (m .kind) p (l .price))) lt (omega arith) in
-      let r : stand m gs (l .from) ≤ rank (m .kind) p = reach c (before-upto (pair-at m (l .from) (rank (m .kind) p)) (pair-at m (l .to) (rank (m .kind) (sum (m .kind) p (l .price)))) k first (or-even h)) in
+      let v = number m (sum (m .kind) p (l .price)) in
+      let s : v ≡ plus m (number m p) (cost m l) = link-sum m law n l e p (chain-within m law c) in
+      let r : stand m gs (l .from) ≤ number m p = reach c (last-link n l e c (or-even h)) in
       let a : ahead m gs (l .to) ≤ plus m (stand m gs (l .from)) (cost m l) = ahead-below m law gs b n l e in
-      let ev : stand m gs (l .to) ≡ ahead m gs (l .to) = ap (rank (m .kind)) (even-below (l .to) (rank (m .kind) (sum (m .kind) p (l .price))) (link-law m law n l e .to-in) (omega arith) h) in
+      let ev : stand m gs (l .to) ≡ ahead m gs (l .to) = ap (number m) (even-below (l .to) v (link-law m law n l e .to-in) (omega arith) h) in
       omega arith
 
   -- a chain whose key is at most k bounds the lookahead
-  pub reach-ahead : {x : ℕ} {ps : List ℕ} {p : Price} → Chain m x ps p → Upto (pair-at m x (rank (m .kind) p)) k → ahead m gs x ≤ rank (m .kind) p
+  pub reach-ahead : {x : ℕ} {ps : List ℕ} {p : Price} → Chain m x ps p → Upto (pair-at m x (number m p)) k → ahead m gs x ≤ number m p
   reach-ahead begin h = let z : ahead m gs (m .start) ≡ 0 = ahead-start m law gs b in omega arith
   reach-ahead (more {p = p} n l e o c f) h =
-      let s : rank (m .kind) (sum (m .kind) p (l .price)) ≡ plus m (rank (m .kind) p) (cost m l) = link-sum m law n l e p (chain-within m law c) in
-      let lt : rank (m .kind) p < limit m = chain-rank m law c in
-      let first : Before (pair-at m (l .from) (rank (m .kind) p)) (pair-at m (l .to) (rank (m .kind) (sum (m .kind) p (l .price)))) = link-key m law n l e (rank (m .kind) p) (rank (m .kind) (sum (m .kind) p (l .price))) lt (omega arith) in
-      let r : stand m gs (l .from) ≤ rank (m .kind) p = reach c (before-upto (pair-at m (l .from) (rank (m .kind) p)) (pair-at m (l .to) (rank (m .kind) (sum (m .kind) p (l .price)))) k first h) in
+      let v = number m (sum (m .kind) p (l .price)) in
+      let s : v ≡ plus m (number m p) (cost m l) = link-sum m law n l e p (chain-within m law c) in
+      let r : stand m gs (l .from) ≤ number m p = reach c (last-link n l e c h) in
       let a : ahead m gs (l .to) ≤ plus m (stand m gs (l .from)) (cost m l) = ahead-below m law gs b n l e in
       omega arith
 
@@ -87,7 +94,7 @@ module _ (m : Meaning) (law : Lawful m) (gs : List Price) (b : Bounds m gs) (k :
     }
 
   pub by-value : (x : ℕ) (y : By m gs x) → ahead m gs x ≡ plus m (stand m gs (y .link .from)) (cost m (y .link))
-  by-value x y = ap (rank (m .kind)) (y .gives) ∙ over-link m law gs b (y .number) (y .link) (y .named)
+  by-value x y = ap (number m) (y .gives) ∙ over-link m law gs b (y .number) (y .link) (y .named)
 
   -- where an open lookahead has a key of at most k, the from place of its link has one below k, and is even
   from-below : (x : ℕ) (y : By m gs x) → ahead m gs x < limit m → Upto (pair-at m x (ahead m gs x)) k → Before (pair-at m (y .link .from) (stand m gs (y .link .from))) k
@@ -102,13 +109,13 @@ module _ (m : Meaning) (law : Lawful m) (gs : List Price) (b : Bounds m gs) (k :
   from-even x y op u = even-below (y .link .from) (stand m gs (y .link .from)) (link-law m law (y .number) (y .link) (y .named) .from-in) (omega arith) (from-below x y op u)
 
   pub from-low : (x : ℕ) (y : By m gs x) → ahead m gs x < limit m → Upto (pair-at m x (ahead m gs x)) k → Upto (pair-at m (y .link .from) (ahead m gs (y .link .from))) k
-  from-low x y op u = subst (λ (v : ℕ). Upto (pair-at m (y .link .from) v) k) (ap (rank (m .kind)) (from-even x y op u)) (or-even (from-below x y op u))
+  from-low x y op u = subst (λ (v : ℕ). Upto (pair-at m (y .link .from) v) k) (ap (number m) (from-even x y op u)) (or-even (from-below x y op u))
 
   -- and its lookahead is smaller
   pub from-ahead : (x : ℕ) (y : By m gs x) → ahead m gs x < limit m → Upto (pair-at m x (ahead m gs x)) k → ahead m gs (y .link .from) < ahead m gs x
   from-ahead x y op u =
       let v : ahead m gs x ≡ plus m (stand m gs (y .link .from)) (cost m (y .link)) = by-value x y in
-      let e : stand m gs (y .link .from) ≡ ahead m gs (y .link .from) = ap (rank (m .kind)) (from-even x y op u) in
+      let e : stand m gs (y .link .from) ≡ ahead m gs (y .link .from) = ap (number m) (from-even x y op u) in
       let d : 0 < cost m (y .link) = price-rank m law (y .number) (y .link) (y .named) in omega arith
 
   -- one link more, that by which the lookahead comes about
@@ -118,7 +125,7 @@ module _ (m : Meaning) (law : Lawful m) (gs : List Price) (b : Bounds m gs) (k :
       let even : Even m gs (l .from) = from-even x y op u in
       let d : 0 < cost m l = price-rank m law (y .number) l (y .named) in
       let v : ahead m gs x ≡ plus m (stand m gs (l .from)) (cost m l) = by-value x y in
-      let e : stand m gs (l .from) ≡ ahead m gs (l .from) = ap (rank (m .kind)) even in
+      let e : stand m gs (l .from) ≡ ahead m gs (l .from) = ap (number m) even in
       record {
         chain = subst (λ (z : ℕ). Chain m z (z ∷ ps) (lookahead m gs x)) (y .to-is)
             (subst (Chain m (l .to) (l .to ∷ ps)) (ap (λ (p : Price). sum (m .kind) p (l .price)) (sym even) ∙ sym (y .gives))
@@ -141,8 +148,8 @@ module _ (m : Meaning) (law : Lawful m) (gs : List Price) (b : Bounds m gs) (k :
   pub look-true : (x : ℕ) → Upto (pair-at m x (ahead m gs x)) k → True-distance m x (lookahead m gs x)
   look-true x u = distance-by m law x (lookahead m gs x)
       (λ ps q c. rank-not-less (m .kind) q (lookahead m gs x) (chain-proper m law c) (look-proper m law gs b x) (⊎-elim
-        (λ (h : rank (m .kind) q < ahead m gs x). let r : ahead m gs x ≤ rank (m .kind) q = reach-ahead c (upto-by (pair-at m x (rank (m .kind) q)) k (λ w. omega arith)) in r)
-        (λ (h : ahead m gs x ≤ rank (m .kind) q). h) (cases-lt (rank (m .kind) q) (ahead m gs x))))
+        (λ (h : number m q < ahead m gs x). let r : ahead m gs x ≤ number m q = reach-ahead c (upto-by (pair-at m x (number m q)) k (λ w. omega arith)) in r)
+        (λ (h : ahead m gs x ≤ number m q). h) (cases-lt (number m q) (ahead m gs x))))
       (⊎-elim
         (λ (h : ahead m gs x < limit m). let w = back (suc (ahead m gs x)) x (omega arith) h u in inl (w .0, w .1 .chain))
         (λ (h : limit m ≤ ahead m gs x). inr (top-is-closed (m .kind) (lookahead m gs x) (look-proper m law gs b x) h)) (cases-lt (ahead m gs x) (limit m)))

@@ -8,7 +8,7 @@ use native.Mathlib.Omega.{arith}
 use Rattle.std.proofs.shelf.Tests.{cases-bool, cases-eq, cases-lt, cases-order}
 use Rattle.rows.specs.Rows.{Price, less}
 use Rattle.rows.specs.Keys.{key-less}
-use Rattle.rows.proofs.Numbers.{less-rank, rank, rank-closed}
+use Rattle.rows.proofs.Numbers.{less-rank, rank-closed}
 use Rattle.chart.specs.Lawful.{Lawful}
 use Rattle.chart.specs.Meaning.{Link, Meaning, link-at, places}
 use Rattle.chart.proofs.Limits.{link-law}
@@ -18,7 +18,7 @@ use Rattle.lifelong.specs.Step.{Even, Taken, next, step}
 use Rattle.lifelong.specs.Bounds.{Bounds}
 use Rattle.lifelong.proofs.Lookaheads.{By, look-proper, stand-proper}
 use Rattle.lifelong.proofs.Agreement.{else-below, next-taken, step-elsewhere, step-lowered}
-use Rattle.lifelong.proofs.Ranks.{Before, Upto, ahead, ahead-below, ahead-by, ahead-capped, ahead-start, before-by, below-not, cost, even-rank, key-reads, limit, or-even, over-link, pair, pair-at, plus, stand, stand-capped}
+use Rattle.lifelong.proofs.Ranks.{Before, Upto, ahead, ahead-below, ahead-by, ahead-capped, ahead-start, before-by, below-not, cost, even-rank, key-reads, limit, number, or-even, over-link, pair, pair-at, plus, stand, stand-capped}
 use Rattle.lifelong.proofs.Reach.{link-key}
 use Rattle.lifelong.proofs.Steps.{step-bounds, taken-bound, taken-raised}
 
@@ -44,11 +44,11 @@ via m law fs hs bf bh x v same le u lt = ⊎-elim at-start at-link (ahead-by m l
     at-link : By m fs u → Via m x v u (ahead m fs u)
     at-link y =
         let l = y .link in
-        let val : ahead m fs u ≡ plus m (stand m fs (l .from)) (cost m l) = ap (rank (m .kind)) (y .gives) ∙ over-link m law fs bf (y .number) l (y .named) in ⊎-elim
+        let val : ahead m fs u ≡ plus m (stand m fs (l .from)) (cost m l) = ap (number m) (y .gives) ∙ over-link m law fs bf (y .number) l (y .named) in ⊎-elim
         (λ (e : l .from ≡ x). let fe : stand m fs (l .from) ≡ stand m fs x = ap (stand m fs) e in
           record { number = y .number; link = l; named = y .named; from-is = e; to-is = y .to-is; least = omega arith })
         (λ (n : l .from ≡ x → ⊥).
-          let fe : stand m hs (l .from) ≡ stand m fs (l .from) = ap (rank (m .kind)) (same (l .from) n) in
+          let fe : stand m hs (l .from) ≡ stand m fs (l .from) = ap (number m) (same (l .from) n) in
           let below : ahead m hs (l .to) ≤ plus m (stand m hs (l .from)) (cost m l) = ahead-below m law hs bh (y .number) l (y .named) in
           let to : ahead m hs (l .to) ≡ ahead m hs u = ap (ahead m hs) (y .to-is) in absurd (omega arith)) (cases-eq (l .from) x)
 
@@ -72,10 +72,10 @@ module _ (m : Meaning) (law : Lawful m) (gs : List Price) (b : Bounds m gs) (x :
   new = ⊎-elim
       (λ (h : less (lookahead m gs x) (standing-at gs x) ≡ true).
         inl (less-rank (m .kind) (lookahead m gs x) (standing-at gs x) (look-proper m law gs b x) (stand-proper m law gs b x (t .inside)) h,
-          ap (rank (m .kind)) (step-lowered m gs x (omega (arith, t .inside, b .long)) h)))
+          ap (number m) (step-lowered m gs x (omega (arith, t .inside, b .long)) h)))
       (λ (f : less (lookahead m gs x) (standing-at gs x) ≡ false).
         inr (less-rank (m .kind) (standing-at gs x) (lookahead m gs x) (stand-proper m law gs b x (t .inside)) (look-proper m law gs b x) (else-below m gs x (t .uneven) f),
-          ap (rank (m .kind)) (taken-raised m law gs b x t f) ∙ rank-closed (m .kind)))
+          ap (number m) (taken-raised m law gs b x t f) ∙ rank-closed (m .kind)))
       (cases-bool (less (lookahead m gs x) (standing-at gs x)))
 
   v-below : v < limit m
@@ -103,11 +103,11 @@ module _ (m : Meaning) (law : Lawful m) (gs : List Price) (b : Bounds m gs) (x :
 
   -- an uneven place keeps the key it had, or has one above that of the place taken
   rises-other : (y : ℕ) → (y ≡ x → ⊥) → y < places m → (Even m hs y → ⊥) → ((Even m gs y → ⊥) × (min (stand m hs y) (ahead m hs y) ≡ min (stand m gs y) (ahead m gs y))) ⊎ Before (pair m gs x) (pair m hs y)
-  rises-other y n l u = let o : stand m hs y ≡ stand m gs y = ap (rank (m .kind)) (elsewhere y n) in ⊎-elim
-      (λ (q : ahead m hs y ≡ ahead m gs y). inl ((λ ev. let z : stand m gs y ≡ ahead m gs y = ap (rank (m .kind)) ev in u (even-rank m law hs bh y l (omega arith))), omega arith))
+  rises-other y n l u = let o : stand m hs y ≡ stand m gs y = ap (number m) (elsewhere y n) in ⊎-elim
+      (λ (q : ahead m hs y ≡ ahead m gs y). inl ((λ ev. let z : stand m gs y ≡ ahead m gs y = ap (number m) ev in u (even-rank m law hs bh y l (omega arith))), omega arith))
       (λ (c : Via m x v y (min (ahead m gs y) (ahead m hs y))).
         let least : plus m v (cost m (c .link)) ≤ min (ahead m gs y) (ahead m hs y) = c .least in ⊎-elim
-        (λ (h : stand m gs y < plus m v (cost m (c .link))). inl ((λ ev. let z : stand m gs y ≡ ahead m gs y = ap (rank (m .kind)) ev in omega arith), omega arith))
+        (λ (h : stand m gs y < plus m v (cost m (c .link))). inl ((λ ev. let z : stand m gs y ≡ ahead m gs y = ap (number m) ev in omega arith), omega arith))
         (λ (h : plus m v (cost m (c .link)) ≤ stand m gs y).
           let k : Before (pair-at m (c .link .from) v) (pair-at m (c .link .to) (min (stand m hs y) (ahead m hs y))) =
               link-key m law (c .number) (c .link) (c .named) v (min (stand m hs y) (ahead m hs y)) v-below (omega arith) in

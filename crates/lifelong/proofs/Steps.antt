@@ -10,7 +10,7 @@ use Rattle.std.proofs.shelf.Tests.{cases-bool, cases-eq}
 use Rattle.rows.specs.Rows.{Price, closed, less}
 use Rattle.rows.specs.Keys.{key-less}
 use Rattle.rows.proofs.Keys.{before-key}
-use Rattle.rows.proofs.Numbers.{less-rank, rank, rank-closed}
+use Rattle.rows.proofs.Numbers.{less-rank, rank-closed}
 use Rattle.chart.specs.Lawful.{Lawful}
 use Rattle.chart.specs.Meaning.{Meaning, places}
 use Rattle.chart.specs.Routes.{Chain, True-distance}
@@ -21,7 +21,7 @@ use Rattle.lifelong.specs.Step.{Settled, Taken, next, step}
 use Rattle.lifelong.specs.Bounds.{Bounds}
 use Rattle.lifelong.proofs.Lookaheads.{look-proper, stand-proper}
 use Rattle.lifelong.proofs.Agreement.{else-below, next-taken, step-elsewhere, step-long, step-lowered, step-raised}
-use Rattle.lifelong.proofs.Ranks.{Upto, ahead, ahead-capped, key-reads, limit, not-below, pair, pair-at, stand, upto-by}
+use Rattle.lifelong.proofs.Ranks.{Upto, ahead, ahead-capped, key-reads, limit, not-below, number, pair, pair-at, stand, upto-by}
 use Rattle.lifelong.proofs.Reach.{Lower-bound, look-true, reach-ahead}
 
 module _ (m : Meaning) (law : Lawful m) (gs : List Price) (b : Bounds m gs) where
@@ -41,7 +41,7 @@ module _ (m : Meaning) (law : Lawful m) (gs : List Price) (b : Bounds m gs) wher
 
   pub settled-true : Settled m gs → True-distance m (m .goal) (standing-at gs (m .goal))
   settled-true s =
-      let e : stand m gs (m .goal) ≡ ahead m gs (m .goal) = ap (rank (m .kind)) (s .even) in
+      let e : stand m gs (m .goal) ≡ ahead m gs (m .goal) = ap (number m) (s .even) in
       rw (s .even) (look-true m law gs b (pair m gs (m .goal)) (settled-bound s) (m .goal) (upto-by (pair-at m (m .goal) (ahead m gs (m .goal))) (pair m gs (m .goal)) (λ w. omega arith)))
 
   pub true-not-taken : (p : ℕ) → Taken m gs p → True-distance m p (standing-at gs p) → ⊥
@@ -52,7 +52,7 @@ module _ (m : Meaning) (law : Lawful m) (gs : List Price) (b : Bounds m gs) wher
         let c : ahead m gs p ≤ limit m = ahead-capped m law gs b p in ⊎-elim
         (λ (w : (ps : List ℕ) × Chain m p ps (standing-at gs p)).
           let q : ahead m gs p ≤ stand m gs p = reach-ahead m law gs b (pair m gs p) (taken-bound p t) (w .1) (upto-by (pair-at m p (stand m gs p)) (pair m gs p) (λ v. omega arith)) in omega arith)
-        (λ (w : (standing-at gs p ≡ closed) × ((ps : List ℕ) (q : Price) → Chain m p ps q → ⊥)). omega (arith, ap (rank (m .kind)) (w .0), rank-closed (m .kind))) (d .met))
+        (λ (w : (standing-at gs p ≡ closed) × ((ps : List ℕ) (q : Price) → Chain m p ps q → ⊥)). omega (arith, ap (number m) (w .0), rank-closed (m .kind))) (d .met))
       (cases-bool (less (lookahead m gs p) (standing-at gs p)))
 
   long-enough : (p : ℕ) → Taken m gs p → p < length gs

@@ -12,7 +12,7 @@ use Rattle.std.proofs.shelf.Tests.{both-ways, cases-bool, cases-eq, cases-lt, c
 use Rattle.rows.specs.Rows.{Price, Proper, closed, is-open, less, open-at, sum}
 use Rattle.rows.proofs.Order.{less-total}
 use Rattle.rows.proofs.Sums.{sum-proper}
-use Rattle.rows.proofs.Numbers.{below-top-is-open, rank, rank-closed, rank-not-less, rank-open, rank-same}
+use Rattle.rows.proofs.Numbers.{below-top-is-open, rank-closed, rank-not-less, rank-open, rank-same}
 use Rattle.chart.specs.Lawful.{Lawful}
 use Rattle.chart.specs.Meaning.{Link, Meaning, link-at, places}
 use Rattle.chart.specs.Routes.{Chain, No-route, True-distance}
@@ -28,7 +28,7 @@ use Rattle.lifelong.specs.Shown.{Cheapest, One-trace, One-true-trace}
 use Rattle.lifelong.specs.Trace.{Move, True-move, True-trace, arrived, move, moved, moving, none, onto, shows, trace, traced, walk}
 use Rattle.lifelong.proofs.Lookaheads.{By, look-below, look-proper, stand-proper}
 use Rattle.lifelong.proofs.Moves.{Nearest, move-of, no-move, not-nearer, the-move}
-use Rattle.lifelong.proofs.Ranks.{Before, Pair, Upto, ahead, ahead-below, ahead-by, before-upto, cost, limit, over-link, pair, pair-at, plus, stand, upto-by}
+use Rattle.lifelong.proofs.Ranks.{Before, Pair, Upto, ahead, ahead-below, ahead-by, before-upto, cost, limit, number, over-link, pair, pair-at, plus, stand, upto-by}
 use Rattle.lifelong.proofs.Reach.{Lower-bound, Least-chain, from-ahead, from-even, from-low, link-key, look-true, reach, least-more, least-start}
 use Rattle.lifelong.proofs.Agreement.{settled-is}
 use Rattle.lifelong.proofs.Steps.{settled-bound, settled-true}
@@ -39,12 +39,12 @@ pub data Walked (m : Meaning) (gs : List Price) : ℕ → List ℕ → Type 0 wh
   by-move : {ps : List ℕ} (x : ℕ) (a : Move) → (x ≡ m .start → ⊥) → move m gs x ≡ Some a → is-open (a .cost) ≡ true → Walked m gs (a .from) ps → Walked m gs x (x ∷ ps)
 
 module _ (m : Meaning) (gs : List Price) where
-  walk-at-start : (n x : ℕ) → x ≡ m .start → walk m gs n x ≡ Some (x ∷ [])
+  pub walk-at-start : (n x : ℕ) → x ≡ m .start → walk m gs n x ≡ Some (x ∷ [])
   unfolding walk
   walk-at-start zero x e = cond-true (eqb x (m .start)) (Some (x ∷ [])) None (eq-eqb x (m .start) e)
   walk-at-start (suc n) x e = cond-true (eqb x (m .start)) (Some (x ∷ [])) (moving x (move m gs x) (λ y. walk m gs n y)) (eq-eqb x (m .start) e)
 
-  walk-away : (n x : ℕ) → (x ≡ m .start → ⊥) → walk m gs (suc n) x ≡ moving x (move m gs x) (λ y. walk m gs n y)
+  pub walk-away : (n x : ℕ) → (x ≡ m .start → ⊥) → walk m gs (suc n) x ≡ moving x (move m gs x) (λ y. walk m gs n y)
   unfolding walk
   walk-away n x u = cond-false (eqb x (m .start)) (Some (x ∷ [])) (moving x (move m gs x) (λ y. walk m gs n y)) (ne-eqb x (m .start) u)
 
@@ -114,16 +114,16 @@ module _ (m : Meaning) (law : Lawful m) (gs : List Price) (b : Bounds m gs) (k :
 
   -- a from place that would do by its true distance has no greater standing
   module _ (x : ℕ) (f : Fixed m gs k x) (n : ℕ) (l : Link) (p : Price) (e : link-at m n ≡ Some l) (t : l .to ≡ x) (d : True-distance m (l .from) p) where
-    by-distance : rank (m .kind) (sum (m .kind) p (l .price)) ≡ plus m (rank (m .kind) p) (cost m l)
+    by-distance : number m (sum (m .kind) p (l .price)) ≡ plus m (number m p) (cost m l)
     by-distance = link-sum m law n l e p (distance-within m law (l .from) p d)
 
-    standing-low : plus m (rank (m .kind) p) (cost m l) ≤ ahead m gs x → stand m gs (l .from) ≤ rank (m .kind) p
+    standing-low : plus m (number m p) (cost m l) ≤ ahead m gs x → stand m gs (l .from) ≤ number m p
     standing-low h =
         let o : ahead m gs x < limit m = f .opens in ⊎-elim
         (λ (w : (ps : List ℕ) × Chain m (l .from) ps p).
-          let first : Before (pair-at m (l .from) (rank (m .kind) p)) (pair-at m (l .to) (ahead m gs x)) = link-key m law n l e (rank (m .kind) p) (ahead m gs x) (omega arith) h in
-          reach m law gs b k bound (w .1) (before-upto (pair-at m (l .from) (rank (m .kind) p)) (pair-at m (l .to) (ahead m gs x)) k first (rw t (f .low))))
-        (λ (w : (p ≡ closed) × ((ps : List ℕ) (q : Price) → Chain m (l .from) ps q → ⊥)). let z : rank (m .kind) p ≡ limit m = ap (rank (m .kind)) (w .0) ∙ rank-closed (m .kind) in absurd (omega arith)) (d .met)
+          let first : Before (pair-at m (l .from) (number m p)) (pair-at m (l .to) (ahead m gs x)) = link-key m law n l e (number m p) (ahead m gs x) (omega arith) h in
+          reach m law gs b k bound (w .1) (before-upto (pair-at m (l .from) (number m p)) (pair-at m (l .to) (ahead m gs x)) k first (rw t (f .low))))
+        (λ (w : (p ≡ closed) × ((ps : List ℕ) (q : Price) → Chain m (l .from) ps q → ⊥)). let z : number m p ≡ limit m = ap (number m) (w .0) ∙ rank-closed (m .kind) in absurd (omega arith)) (d .met)
 
     ahead-low : ahead m gs x ≤ plus m (stand m gs (l .from)) (cost m l)
     ahead-low = subst (λ (z : ℕ). ahead m gs z ≤ plus m (stand m gs (l .from)) (cost m l)) t (ahead-below m law gs b n l e)
@@ -133,13 +133,13 @@ module _ (m : Meaning) (law : Lawful m) (gs : List Price) (b : Bounds m gs) (k :
 
     none-less : less (sum (m .kind) p (l .price)) (lookahead m gs x) ≡ false
     none-less = rank-not-less (m .kind) (sum (m .kind) p (l .price)) (lookahead m gs x) by-proper (look-proper m law gs b x) (⊎-elim
-        (λ (h : plus m (rank (m .kind) p) (cost m l) < ahead m gs x). let s = standing-low (omega arith) in let a = ahead-low in absurd (omega arith))
-        (λ (h : ahead m gs x ≤ plus m (rank (m .kind) p) (cost m l)). omega (arith, by-distance)) (cases-lt (plus m (rank (m .kind) p) (cost m l)) (ahead m gs x)))
+        (λ (h : plus m (number m p) (cost m l) < ahead m gs x). let s = standing-low (omega arith) in let a = ahead-low in absurd (omega arith))
+        (λ (h : ahead m gs x ≤ plus m (number m p) (cost m l)). omega (arith, by-distance)) (cases-lt (plus m (number m p) (cost m l)) (ahead m gs x)))
 
     tie-stands : sum (m .kind) p (l .price) ≡ lookahead m gs x → sum (m .kind) (standing-at gs (l .from)) (l .price) ≡ lookahead m gs x
     tie-stands q =
-        let r : plus m (rank (m .kind) p) (cost m l) ≡ ahead m gs x = sym by-distance ∙ ap (rank (m .kind)) q in
-        let s : stand m gs (l .from) ≤ rank (m .kind) p = standing-low (omega arith) in
+        let r : plus m (number m p) (cost m l) ≡ ahead m gs x = sym by-distance ∙ ap (number m) q in
+        let s : stand m gs (l .from) ≤ number m p = standing-low (omega arith) in
         let a = ahead-low in
         rank-same (m .kind) (sum (m .kind) (standing-at gs (l .from)) (l .price)) (lookahead m gs x)
           (sum-proper (m .kind) (standing-at gs (l .from)) (l .price) (stand-proper m law gs b (l .from) (link-law m law n l e .from-in)) (price-proper m law n l e)) (look-proper m law gs b x)
@@ -188,7 +188,7 @@ module _ (m : Meaning) (law : Lawful m) (gs : List Price) (b : Bounds m gs) (t :
   settled-fixed : is-open (standing-at gs (m .goal)) ≡ true → Fixed m gs (pair m gs (m .goal)) (m .goal)
   settled-fixed o =
       let s = settled-is m gs t in
-      let e : stand m gs (m .goal) ≡ ahead m gs (m .goal) = ap (rank (m .kind)) (s .even) in
+      let e : stand m gs (m .goal) ≡ ahead m gs (m .goal) = ap (number m) (s .even) in
       record {
         even = s .even;
         opens = omega (arith, rank-open (m .kind) (standing-at gs (m .goal)) (stand-proper m law gs b (m .goal) (law .goal-in)) o);

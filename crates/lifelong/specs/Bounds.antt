@@ -25,7 +25,8 @@ Always P = (m : Meaning) → Lawful m → (gs : List Price) → Bounds m gs → 
 -- The bounds hold when all standings are closed, whatever the price of a link, and after every step and run.
 
 abbrev pub Closed-within : Type 0
-Closed-within = (m : Meaning) (gs : List Price) → places m ≤ length gs → ((p : ℕ) → p < places m → standing-at gs p ≡ closed) → Bounds m gs
+Closed-within = (m : Meaning) (gs : List Price) → places m ≤ length gs →
+    ((p : ℕ) → p < places m → standing-at gs p ≡ closed) → Bounds m gs
 
 abbrev pub Priced-within : Type 0
 Priced-within = (m : Meaning) (gs : List Price) (n : ℕ) (p : Price) → Bounds m gs → Bounds (priced m n p) gs
@@ -39,8 +40,10 @@ Run-within = Always (λ m gs. (n : ℕ) → Bounds m (run m n gs .left))
 -- Under them no sum reaches the ceiling: that of a standing and a link's price, or of a key.
 
 abbrev pub Sums-open : Type 0
-Sums-open = Always (λ m gs. (n : ℕ) (l : Link) → link-at m n ≡ Some l → is-open (standing-at gs (l .from)) ≡ true → is-open (l .price) ≡ true →
+Sums-open = Always (λ m gs. (n : ℕ) (l : Link) → link-at m n ≡ Some l →
+    is-open (standing-at gs (l .from)) ≡ true → is-open (l .price) ≡ true →
     is-open (sum (m .kind) (standing-at gs (l .from)) (l .price)) ≡ true)
 
 abbrev pub Keys-open : Type 0
-Keys-open = Always (λ m gs. (p : ℕ) → p < places m → is-open (smaller (standing-at gs p) (lookahead m gs p)) ≡ true → is-open (key m gs p .whole) ≡ true)
+Keys-open = Always (λ m gs. (p : ℕ) → p < places m →
+    is-open (smaller (standing-at gs p) (lookahead m gs p)) ≡ true → is-open (key m gs p .whole) ≡ true)

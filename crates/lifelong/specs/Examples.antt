@@ -51,17 +51,17 @@ abbrev pub table : List Row
 table =
     -- repaired, then with link 1 closed, then with link 2 closed too
     row three (fresh three) (ms 7) 3 (shows (0 ∷ 1 ∷ 2 ∷ []))
-  ∷ row without-1 (repaired three (fresh three)) (ms 9) 2 (shows (0 ∷ 2 ∷ []))
-  ∷ row (priced without-1 2 closed) (repaired without-1 (repaired three (fresh three))) closed 1 none
+    ∷ row without-1 (repaired three (fresh three)) (ms 9) 2 (shows (0 ∷ 2 ∷ []))
+    ∷ row (priced without-1 2 closed) (repaired without-1 (repaired three (fresh three))) closed 1 none
     -- repaired again, and with a price changed and set back
-  ∷ row three (repaired three (fresh three)) (ms 7) 0 (shows (0 ∷ 1 ∷ 2 ∷ []))
-  ∷ row (priced without-1 1 (ms 3)) (repaired three (fresh three)) (ms 7) 0 (shows (0 ∷ 1 ∷ 2 ∷ []))
-  ∷ row swapped (fresh swapped) (ms 7) 3 (shows (2 ∷ 1 ∷ 0 ∷ []))
-  ∷ row guarded (fresh guarded) closed 2 none
-  ∷ row at-once (fresh at-once) (ms 0) 1 (shows (0 ∷ []))
-  ∷ row beside (fresh beside) (open-at (5 ∷ [])) 2 (shows (0 ∷ 1 ∷ []))
-  ∷ row (priced beside 1 closed) (repaired beside (fresh beside)) closed 1 none
-  ∷ []
+    ∷ row three (repaired three (fresh three)) (ms 7) 0 (shows (0 ∷ 1 ∷ 2 ∷ []))
+    ∷ row (priced without-1 1 (ms 3)) (repaired three (fresh three)) (ms 7) 0 (shows (0 ∷ 1 ∷ 2 ∷ []))
+    ∷ row swapped (fresh swapped) (ms 7) 3 (shows (2 ∷ 1 ∷ 0 ∷ []))
+    ∷ row guarded (fresh guarded) closed 2 none
+    ∷ row at-once (fresh at-once) (ms 0) 1 (shows (0 ∷ []))
+    ∷ row beside (fresh beside) (open-at (5 ∷ [])) 2 (shows (0 ∷ 1 ∷ []))
+    ∷ row (priced beside 1 closed) (repaired beside (fresh beside)) closed 1 none
+    ∷ []
 
 abbrev pub refused-by : ℕ → ℕ → ℕ → Option Refusal
 refused-by number n height = Some (record { by = number; link = Some n; height = height })

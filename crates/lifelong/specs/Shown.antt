@@ -27,16 +27,20 @@ pub record Cheapest (m : Meaning) (gs : List Price) (ps : List ℕ) : Type 0 whe
   pub by-distances : True-trace m (m .goal) (reverse ps)
 
 abbrev pub Shows-cheapest : Type 0
-Shows-cheapest = Always (λ m gs. settled m gs ≡ true → is-open (standing-at gs (m .goal)) ≡ true → (ps : List ℕ) × Cheapest m gs ps)
+Shows-cheapest = Always (λ m gs. settled m gs ≡ true →
+    is-open (standing-at gs (m .goal)) ≡ true → (ps : List ℕ) × Cheapest m gs ps)
 
 -- it has none to show exactly when no route stands
 abbrev pub None-without-route : Type 0
-None-without-route = Always (λ m gs. settled m gs ≡ true → (trace m gs ≡ none → No-route m) × (No-route m → trace m gs ≡ none))
+None-without-route = Always (λ m gs. settled m gs ≡ true →
+    (trace m gs ≡ none → No-route m) × (No-route m → trace m gs ≡ none))
 
 -- such moves lead back from a place in one way only: the route is a function of the chart alone
 abbrev pub One-true-trace : Type 0
-One-true-trace = (m : Meaning) → Lawful m → (x : ℕ) (ps qs : List ℕ) → True-trace m x ps → True-trace m x qs → ps ≡ qs
+One-true-trace = (m : Meaning) → Lawful m → (x : ℕ) (ps qs : List ℕ) →
+    True-trace m x ps → True-trace m x qs → ps ≡ qs
 
 -- whatever came before, equal charts show equal routes
 abbrev pub One-trace : Type 0
-One-trace = (m : Meaning) → Lawful m → (gs hs : List Price) → Bounds m gs → Bounds m hs → settled m gs ≡ true → settled m hs ≡ true → trace m gs ≡ trace m hs
+One-trace = (m : Meaning) → Lawful m → (gs hs : List Price) → Bounds m gs → Bounds m hs →
+    settled m gs ≡ true → settled m hs ≡ true → trace m gs ≡ trace m hs

@@ -33,15 +33,18 @@ Zero-at-start = (m : Meaning) → Lawful m → True-distance m (m .start) (zero-
 
 abbrev pub Closed-without-chain : Type 0
 Closed-without-chain = (m : Meaning) → Lawful m → (x : ℕ) (p : Price) → True-distance m x p →
-    (p ≡ closed → (ps : List ℕ) (q : Price) → Chain m x ps q → ⊥) × (((ps : List ℕ) (q : Price) → Chain m x ps q → ⊥) → p ≡ closed)
+    (p ≡ closed → (ps : List ℕ) (q : Price) → Chain m x ps q → ⊥) ×
+    (((ps : List ℕ) (q : Price) → Chain m x ps q → ⊥) → p ≡ closed)
 
 -- Keys: that of the next step is not below that of this one, nor is that of any later step.
 
 abbrev pub Next-key : Type 0
-Next-key = Always (λ m gs. (p q : ℕ) → next m gs ≡ Some p → next m (step m gs p) ≡ Some q → key-less (key m (step m gs p) q) (key m gs p) ≡ false)
+Next-key = Always (λ m gs. (p q : ℕ) → next m gs ≡ Some p → next m (step m gs p) ≡ Some q →
+    key-less (key m (step m gs p) q) (key m gs p) ≡ false)
 
 abbrev pub Later-keys : Type 0
-Later-keys = Always (λ m gs. (p : ℕ) → next m gs ≡ Some p → (n q : ℕ) → next m (run m n (step m gs p) .left) ≡ Some q →
+Later-keys = Always (λ m gs. (p : ℕ) → next m gs ≡ Some p →
+    (n q : ℕ) → next m (run m n (step m gs p) .left) ≡ Some q →
     key-less (key m (run m n (step m gs p) .left) q) (key m gs p) ≡ false)
 
 -- Runs: no place is lowered twice or raised twice, so none is expanded more than twice, two steps for each place
@@ -59,10 +62,12 @@ Few-steps = Always (λ m gs. (n : ℕ) → length (run m n gs .steps) ≤ 2 * pl
 abbrev pub Ends-settled : Type 0
 Ends-settled = Always (λ m gs. settled m (repair m gs .left) ≡ true)
 
--- Truth: a place that is lowered gets its true distance; so has the goal when settled, closed exactly when no route stands.
+-- Truth: a place that is lowered gets its true distance; so has the goal when settled, closed exactly when no route
+-- stands.
 
 abbrev pub Lowered-true : Type 0
-Lowered-true = Always (λ m gs. (p : ℕ) → next m gs ≡ Some p → less (lookahead m gs p) (standing-at gs p) ≡ true → True-distance m p (standing-at (step m gs p) p))
+Lowered-true = Always (λ m gs. (p : ℕ) → next m gs ≡ Some p → less (lookahead m gs p) (standing-at gs p) ≡ true →
+    True-distance m p (standing-at (step m gs p) p))
 
 abbrev pub Settled-true : Type 0
 Settled-true = Always (λ m gs. settled m gs ≡ true → True-distance m (m .goal) (standing-at gs (m .goal)))
@@ -89,4 +94,5 @@ pub record Same-answers (m : Meaning) (gs hs : List Price) : Type 0 where
   pub trace-same : trace m gs ≡ trace m hs
 
 abbrev pub Past-unread : Type 0
-Past-unread = (m : Meaning) → Lawful m → (gs hs : List Price) → places m ≤ length gs → places m ≤ length hs → Agree m gs hs → Same-answers m gs hs
+Past-unread = (m : Meaning) → Lawful m → (gs hs : List Price) → places m ≤ length gs → places m ≤ length hs →
+    Agree m gs hs → Same-answers m gs hs
