@@ -73,7 +73,8 @@ module _ (m : Meaning) (law : Lawful m) where
   chain-rank {p = p} c = rank-open (m .kind) p (chain-proper c) (chain-open c)
 
   -- a price that no chain is below, closed or met by a chain, is the true distance
-  pub distance-by : (x : ℕ) (p : Price) → ((ps : List ℕ) (q : Price) → Chain m x ps q → less q p ≡ false) → ((ps : List ℕ) × Chain m x ps p) ⊎ (p ≡ closed) → True-distance m x p
+  pub distance-by : (x : ℕ) (p : Price) → ((ps : List ℕ) (q : Price) → Chain m x ps q → less q p ≡ false) → ((ps : List ℕ) × Chain m x ps p) ⊎ (p ≡ closed) →
+      True-distance m x p
   distance-by x p least met = record {
       least = least;
       met = ⊎-elim (λ (w : (ps : List ℕ) × Chain m x ps p). inl w)

@@ -35,14 +35,18 @@ module _ (test : Option Link → Bool) (cost : Option Link → Price) where
   least-take l ls e = cond-true (test l) (smaller (cost l) (least-over test cost ls)) (least-over test cost ls) e
 
   -- no link that passes costs less
-  pub least-below : (ls : List (Option Link)) (n : ℕ) (l : Link) → getD ls n None ≡ Some l → test (Some l) ≡ true → less (cost (Some l)) (least-over test cost ls) ≡ false
+  pub least-below : (ls : List (Option Link)) (n : ℕ) (l : Link) → getD ls n None ≡ Some l → test (Some l) ≡ true →
+      less (cost (Some l)) (least-over test cost ls) ≡ false
   least-below [] n l e j = let z : _≡_ {A = ℕ} 0 1 = cc in absurd (omega arith)
   least-below (k ∷ ls) zero l e j =
-      let q : least-over test cost (k ∷ ls) ≡ smaller (cost (Some l)) (least-over test cost ls) = least-take k ls (ap test e ∙ j) ∙ ap (λ z. smaller (cost z) (least-over test cost ls)) e in
+      let q : least-over test cost (k ∷ ls) ≡ smaller (cost (Some l)) (least-over test cost ls) =
+          least-take k ls (ap test e ∙ j) ∙ ap (λ z. smaller (cost z) (least-over test cost ls)) e in
       rw q (smaller-below (cost (Some l)) (least-over test cost ls) .0)
   least-below (k ∷ ls) (suc n) l e j =
       let ih : less (cost (Some l)) (least-over test cost ls) ≡ false = least-below ls n l e j in ⊎-elim
-      (λ (t : test k ≡ true). rw (least-take k ls t) (less-chain (smaller (cost k) (least-over test cost ls)) (least-over test cost ls) (cost (Some l)) (smaller-below (cost k) (least-over test cost ls) .1) ih))
+      (λ (t : test k ≡ true). rw (least-take k ls t)
+          (less-chain (smaller (cost k) (least-over test cost ls)) (least-over test cost ls) (cost (Some l))
+          (smaller-below (cost k) (least-over test cost ls) .1) ih))
       (λ (f : test k ≡ false). rw (least-skip k ls f) ih) (cases-bool (test k))
 
   -- a link that passes, and has the cost v
@@ -72,12 +76,14 @@ module _ (test : Option Link → Bool) (cost : Option Link → Price) where
   least-all P c (l ∷ ls) h = ⊎-elim
       (λ (t : test l ≡ true). ⊎-elim
         (λ (s : less (cost l) (least-over test cost ls) ≡ true). subst P (sym (least-take l ls t ∙ smaller-left (cost l) (least-over test cost ls) s)) (h 0))
-        (λ (s : less (cost l) (least-over test cost ls) ≡ false). subst P (sym (least-take l ls t ∙ smaller-right (cost l) (least-over test cost ls) s)) (least-all P c ls (λ n. h (suc n))))
+        (λ (s : less (cost l) (least-over test cost ls) ≡ false). subst P (sym (least-take l ls t ∙ smaller-right (cost l) (least-over test cost ls) s))
+            (least-all P c ls (λ n. h (suc n))))
         (cases-bool (less (cost l) (least-over test cost ls))))
       (λ (f : test l ≡ false). subst P (sym (least-skip l ls f)) (least-all P c ls (λ n. h (suc n)))) (cases-bool (test l))
 
 -- equal costs have an equal least
-pub least-same : (test : Option Link → Bool) (cost other : Option Link → Price) (ls : List (Option Link)) → ((n : ℕ) → cost (getD ls n None) ≡ other (getD ls n None)) → least-over test cost ls ≡ least-over test other ls
+pub least-same : (test : Option Link → Bool) (cost other : Option Link → Price) (ls : List (Option Link)) →
+    ((n : ℕ) → cost (getD ls n None) ≡ other (getD ls n None)) → least-over test cost ls ≡ least-over test other ls
 unfolding least-over
 least-same test cost other [] h = refl
 least-same test cost other (l ∷ ls) h = let r = least-same test cost other ls (λ n. h (suc n)) in λ i. cond (test l) (smaller (h 0 i) (r i)) (r i)

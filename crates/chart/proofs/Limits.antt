@@ -71,7 +71,9 @@ room-own : (c : ℕ) (ls es : List ℕ) → Room c ls es → (all-below c es ≡
 room-own c [] [] r = (refl, refl)
 room-own c [] (e ∷ es) r = absurd r
 room-own c (l ∷ ls) [] r = absurd r
-room-own c (l ∷ ls) (e ∷ es) r = let t = room-own c ls es (r .1) in (and-from (ltb e c) (all-below c es) (lt-ltb e c (omega (arith, r .0))) (t .0), ap suc (t .1))
+room-own c (l ∷ ls) (e ∷ es) r =
+    let t = room-own c ls es (r .1) in
+    (and-from (ltb e c) (all-below c es) (lt-ltb e c (omega (arith, r .0))) (t .0), ap suc (t .1))
 
 -- prices
 
@@ -135,7 +137,8 @@ module _ (m : Meaning) (law : Lawful m) where
   uncapped-with closed p r h a b = absurd r
   uncapped-with (open-at es) closed r h a b = absurd (both-ways false refl a)
   uncapped-with (open-at es) (open-at xs) r h a b =
-      ap is-open (cond-true (all-below (m .kind .ceiling) (add-rows xs es)) (open-at (add-rows xs es)) closed (room-sum (m .kind .ceiling) (m .kind .largest) es xs r h))
+      ap is-open (cond-true (all-below (m .kind .ceiling) (add-rows xs es)) (open-at (add-rows xs es)) closed
+          (room-sum (m .kind .ceiling) (m .kind .largest) es xs r h))
 
   -- nor does an estimate
   pub uncapped-estimate : (p : Price) (x : ℕ) → x < places m → Within (m .kind) 4096 p → Uncapped (m .kind) p (estimate-at m x)
@@ -173,13 +176,16 @@ module _ (m : Meaning) (law : Lawful m) where
 
     pub floor-rank : (0 < rank (m .kind) (l .floor)) × (rank (m .kind) (l .floor) ≤ rank (m .kind) (l .price))
     floor-rank =
-        let z : rank (m .kind) (zero-of (m .kind)) < rank (m .kind) (l .floor) = less-rank (m .kind) (zero-of (m .kind)) (l .floor) zero-proper floor-proper (link-law .floor-above) in
-        let p : rank (m .kind) (l .floor) ≤ rank (m .kind) (l .price) = not-less-rank (m .kind) (l .price) (l .floor) price-proper floor-proper (link-law .price-above) in
+        let z : rank (m .kind) (zero-of (m .kind)) < rank (m .kind) (l .floor) =
+            less-rank (m .kind) (zero-of (m .kind)) (l .floor) zero-proper floor-proper (link-law .floor-above) in
+        let p : rank (m .kind) (l .floor) ≤ rank (m .kind) (l .price) =
+            not-less-rank (m .kind) (l .price) (l .floor) price-proper floor-proper (link-law .price-above) in
         (omega (arith, rank-zero (m .kind)), p)
 
     pub price-rank : 0 < rank (m .kind) (l .price)
     price-rank = omega (arith, floor-rank .0, floor-rank .1)
 
     -- the sum with a price that has room for one link more
-    pub link-sum : (p : Price) → Within (m .kind) 4095 p → rank (m .kind) (sum (m .kind) p (l .price)) ≡ min (rank (m .kind) p + rank (m .kind) (l .price)) (top (m .kind))
+    pub link-sum : (p : Price) → Within (m .kind) 4095 p →
+        rank (m .kind) (sum (m .kind) p (l .price)) ≡ min (rank (m .kind) p + rank (m .kind) (l .price)) (top (m .kind))
     link-sum p h = rank-sum (m .kind) p (l .price) (low-proper p h) price-proper (uncapped-link p (l .price) h price-within)

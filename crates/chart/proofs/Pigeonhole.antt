@@ -69,9 +69,12 @@ map-among f (y ∷ xs) x (inr i) = inr (map-among f xs x i)
 
 distinct-map : {A : Type 0} (f : A → ℕ) → ((x y : A) → f x ≡ f y → x ≡ y) → (xs : List A) → Distinct xs → Distinct (map f xs)
 distinct-map f one [] d = tt
-distinct-map f one (x ∷ xs) d = ((λ i. let t = among-map f xs (f x) i in d .0 (subst (λ z. Among z xs) (sym (one x (t .0) (t .1 .1))) (t .1 .0))), distinct-map f one xs (d .1))
+distinct-map f one (x ∷ xs) d =
+    ((λ i. let t = among-map f xs (f x) i in d .0 (subst (λ z. Among z xs) (sym (one x (t .0) (t .1 .1))) (t .1 .0))), distinct-map f one xs (d .1))
 
-pub pigeonhole-by : {A : Type 0} (f : A → ℕ) → ((x y : A) → f x ≡ f y → x ≡ y) → (n : ℕ) (xs : List A) → Distinct xs → ((x : A) → Among x xs → f x < n) → length xs ≤ n
+pub pigeonhole-by : {A : Type 0} (f : A → ℕ) → ((x y : A) → f x ≡ f y → x ≡ y) → (n : ℕ) (xs : List A) → Distinct xs → ((x : A) → Among x xs → f x < n) →
+    length xs ≤ n
 pigeonhole-by f one n xs d b =
-    let h : length (map f xs) ≤ n = pigeonhole n (map f xs) (distinct-map f one xs d) (λ y i. let t = among-map f xs y i in subst (λ z. z < n) (sym (t .1 .1)) (b (t .0) (t .1 .0))) in
+    let h : length (map f xs) ≤ n =
+        pigeonhole n (map f xs) (distinct-map f one xs d) (λ y i. let t = among-map f xs y i in subst (λ z. z < n) (sym (t .1 .1)) (b (t .0) (t .1 .0))) in
     omega (arith, length-map xs f)

@@ -34,7 +34,9 @@ joining m a b n p (Some l) e j g = let t = and-parts (eqb (l .from) a) (eqb (l .
     record { number = n; link = l; named = e; from-is = eqb-true (l .from) a (t .0); to-is = eqb-true (l .to) b (t .1); price-is = sym g }
 
 cheapest-met : (m : Meaning) (a b : ℕ) → is-open (cheapest m a b) ≡ true → Joining m a b (cheapest m a b)
-cheapest-met m a b o = let t = least-met (joins a b) link-price (m .links) o in joining m a b (t .number) (cheapest m a b) (link-at m (t .number)) refl (t .passes) (t .gives)
+cheapest-met m a b o =
+    let t = least-met (joins a b) link-price (m .links) o in
+    joining m a b (t .number) (cheapest m a b) (link-at m (t .number)) refl (t .passes) (t .gives)
 
 module _ (m : Meaning) (law : Lawful m) where
   named-proper : (n : ℕ) (o : Option Link) → link-at m n ≡ o → Proper (m .kind) (link-price o)
@@ -57,7 +59,8 @@ module _ (m : Meaning) (law : Lawful m) where
       ∙ sym (sum-assoc (m .kind) (cheapest m x a) (zero-of (m .kind)) (cheapest m a b) (between-proper x a) (zero-proper m law) (between-proper a b))
   along-more x (y ∷ xs) a b =
       ap (sum (m .kind) (cheapest m x y)) (along-more y xs a b)
-      ∙ sym (sum-assoc (m .kind) (cheapest m x y) (price-along m y (xs ++ a ∷ [])) (cheapest m a b) (between-proper x y) (along-proper y (xs ++ a ∷ [])) (between-proper a b))
+      ∙ sym (sum-assoc (m .kind) (cheapest m x y) (price-along m y (xs ++ a ∷ [])) (cheapest m a b) (between-proper x y) (along-proper y (xs ++ a ∷ []))
+          (between-proper a b))
 
   price-more : (xs : List ℕ) (a b : ℕ) → places-price m (xs ++ a ∷ b ∷ []) ≡ sum (m .kind) (places-price m (xs ++ a ∷ [])) (cheapest m a b)
   unfolding price-along
@@ -78,7 +81,8 @@ module _ (m : Meaning) (law : Lawful m) where
   unfolding price-along
   by-cheapest-begin = record { chain = begin; below = omega arith }
 
-  by-cheapest-more : (n : ℕ) (l : Link) → link-at m n ≡ Some l → is-open (l .price) ≡ true → (ps : List ℕ) (p : Price) → Chain m (l .from) ps p → (Among (l .to) ps → ⊥) →
+  by-cheapest-more : (n : ℕ) (l : Link) → link-at m n ≡ Some l → is-open (l .price) ≡ true → (ps : List ℕ) (p : Price) → Chain m (l .from) ps p →
+      (Among (l .to) ps → ⊥) →
       By-cheapest (l .from) ps p → By-cheapest (l .to) (l .to ∷ ps) (sum (m .kind) p (l .price))
   by-cheapest-more n l e o ps p c f h =
       let a = l .from in
@@ -87,13 +91,15 @@ module _ (m : Meaning) (law : Lawful m) where
       let d = cheapest m a b in
       let rest = chain-head m c in
       let is : places-price m (reverse (b ∷ ps)) ≡ sum (m .kind) q d =
-          subst (λ (xs : List ℕ). places-price m (reverse (b ∷ xs)) ≡ sum (m .kind) (places-price m (reverse xs)) d) (sym (rest .1)) (back-more (rest .0) a b) in
+          subst (λ (xs : List ℕ). places-price m (reverse (b ∷ xs)) ≡ sum (m .kind) (places-price m (reverse xs)) d) (sym (rest .1))
+              (back-more (rest .0) a b) in
       let lo : rank (m .kind) d ≤ rank (m .kind) (l .price) = not-less-rank (m .kind) (l .price) d (price-proper m law n l e) (between-proper a b)
           (least-below (joins a b) link-price (m .links) n l e (and-from (eqb a a) (eqb b b) (eq-eqb a a refl) (eq-eqb b b refl))) in
       let top-above = rank-open (m .kind) (l .price) (price-proper m law n l e) o in
       let j : Joining m a b d = cheapest-met m a b (below-top-is-open (m .kind) d (omega arith)) in
       let k = j .link in
-      let new : Chain m (k .to) (k .to ∷ ps) (sum (m .kind) q (k .price)) = more (j .number) k (j .named) (ap is-open (j .price-is) ∙ below-top-is-open (m .kind) d (omega arith))
+      let new : Chain m (k .to) (k .to ∷ ps) (sum (m .kind) q (k .price)) =
+          more (j .number) k (j .named) (ap is-open (j .price-is) ∙ below-top-is-open (m .kind) d (omega arith))
           (subst (λ (z : ℕ). Chain m z ps q) (sym (j .from-is)) (h .chain)) (λ i. f (subst (λ (z : ℕ). Among z ps) (j .to-is) i)) in
       let moved : Chain m b (b ∷ ps) (sum (m .kind) q (k .price)) = subst (λ (z : ℕ). Chain m z (z ∷ ps) (sum (m .kind) q (k .price))) (j .to-is) new in
       let same : sum (m .kind) q (k .price) ≡ places-price m (reverse (b ∷ ps)) = ap (sum (m .kind) q) (j .price-is) ∙ sym is in

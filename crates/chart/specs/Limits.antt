@@ -3,6 +3,7 @@ use mathlib.Core.List.{List, [], _∷_}
 use Prim.Native.Nat.{ℕ, _*_, _≤_}
 use Rattle.rows.specs.Rows.{Kind, Price, closed, open-at}
 
+-- at each position at most n times the number of the first row, and no position more or less
 abbrev pub Each-within : ℕ → List ℕ → List ℕ → Type 0
 Each-within n [] [] = Unit {0}
 Each-within n [] (x ∷ xs) = ⊥

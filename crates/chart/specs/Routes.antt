@@ -20,8 +20,8 @@ abbrev pub Distinct : {A : Type 0} → List A → Type 0
 Distinct [] = Unit {0}
 Distinct (x ∷ xs) = (Among x xs → ⊥) × Distinct xs
 
--- chain: a path from the start over open links that meets no place twice.
--- It has its last place, all its places, the last one first, and its price, the sum of its links' prices.
+-- chain: a path from the start over open links that meets no place twice. It has its last place, all its places, the
+-- last one first, and its price, the sum of its links' prices.
 pub data Chain (m : Meaning) : ℕ → List ℕ → Price → Type 0 where
   begin : Chain m (m .start) (m .start ∷ []) (zero-of (m .kind))
   more : {ps : List ℕ} {p : Price} (n : ℕ) (l : Link) → link-at m n ≡ Some l → is-open (l .price) ≡ true →
@@ -35,7 +35,8 @@ Route m ps p = Chain m (m .goal) (reverse ps) p
 abbrev pub No-route : Meaning → Type 0
 No-route m = (ps : List ℕ) (p : Price) → Route m ps p → ⊥
 
--- true distance (start distance): no chain to the place costs less; a chain has it, or it is closed and there is no chain
+-- true distance: the start distance of a place. No chain to it costs less; a chain has it, or it is closed and there is
+-- no chain
 pub record True-distance (m : Meaning) (x : ℕ) (p : Price) : Type 0 where
   pub least : (ps : List ℕ) (q : Price) → Chain m x ps q → less q p ≡ false
   pub met : ((ps : List ℕ) × Chain m x ps p) ⊎ ((p ≡ closed) × ((ps : List ℕ) (q : Price) → Chain m x ps q → ⊥))
@@ -45,10 +46,12 @@ unfoldable pub least-over : (Option Link → Bool) → (Option Link → Price) �
 least-over test cost [] = closed
 least-over test cost (l ∷ ls) = cond (test l) (smaller (cost l) (least-over test cost ls)) (least-over test cost ls)
 
+-- it leads from place a to place b
 abbrev pub joins : ℕ → ℕ → Option Link → Bool
 joins a b None = false
 joins a b (Some l) = eqb (l .from) a && eqb (l .to) b
 
+-- its price, closed where the number names no link
 abbrev pub link-price : Option Link → Price
 link-price None = closed
 link-price (Some l) = l .price

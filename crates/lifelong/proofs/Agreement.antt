@@ -17,7 +17,8 @@ use Rattle.chart.specs.Meaning.{Meaning, places}
 use Rattle.std.specs.declared.option.Option.{Option}
 use Rattle.std.specs.declared.option.Option.the-variants.{Some, None}
 use Rattle.lifelong.specs.Standings.{differ, key, lookahead, standing-at, uneven}
-use Rattle.lifelong.specs.Step.{Change, Changed, Even, Settled, Stepped, Steps-agree, Taken, below-goal, better, change-at, changed, lowered, next, next-below, raised, settled, step}
+use Rattle.lifelong.specs.Step.{Change, Changed, Even, Settled, Stepped, Steps-agree, Taken, below-goal, better, change-at, changed, lowered, next, next-below}
+use Rattle.lifelong.specs.Step.{raised, settled, step}
 
 before-self : (a : _) (p : ℕ) → before a p a p ≡ false
 before-self a p = ⊎-elim (λ t. before-one-way a a p p t) (λ f. f) (cases-bool (before a p a p))
@@ -81,13 +82,16 @@ module _ (m : Meaning) (gs : List Price) where
   unfolding next-below
   best zero = λ q l. absurd (omega arith)
   best (suc n) = ⊎-elim
-      (λ u. subst (Best (suc n)) (sym (cond-true (uneven m gs n) (better m gs (next-below m gs n) n) (next-below m gs n) u)) (joined n (next-below m gs n) u (best n)))
-      (λ f. subst (Best (suc n)) (sym (cond-false (uneven m gs n) (better m gs (next-below m gs n) n) (next-below m gs n) f)) (widen n (next-below m gs n) f (best n)))
+      (λ u. subst (Best (suc n)) (sym (cond-true (uneven m gs n) (better m gs (next-below m gs n) n) (next-below m gs n) u))
+          (joined n (next-below m gs n) u (best n)))
+      (λ f. subst (Best (suc n)) (sym (cond-false (uneven m gs n) (better m gs (next-below m gs n) n) (next-below m gs n) f))
+          (widen n (next-below m gs n) f (best n)))
       (cases-bool (uneven m gs n))
 
   only : (p : ℕ) (o : Option ℕ) → Best (places m) o → Taken m gs p → o ≡ Some p
   only p None h t = absurd (t .uneven (even-is p (h p (t .inside))))
-  only p (Some q) h t = ap Some (before-total (key m gs q) (key m gs p) q p (t .first q (h .0) (uneven-is q (h .1))) (h .2 p (t .inside) (is-uneven p (t .uneven))))
+  only p (Some q) h t = ap Some
+      (before-total (key m gs q) (key m gs p) q p (t .first q (h .0) (uneven-is q (h .1))) (h .2 p (t .inside) (is-uneven p (t .uneven))))
 
   pub taken-next : (p : ℕ) → Taken m gs p → next m gs ≡ Some p
   taken-next p t = only p (next m gs) (best (places m)) t
@@ -107,11 +111,13 @@ module _ (m : Meaning) (gs : List Price) where
   even-none e = none-next (next m gs) (best (places m)) e
 
   -- the test of the place that would be taken says it of all
-  front : (o : Option ℕ) → Best (places m) o → below-goal m gs o ≡ false → (q : ℕ) → q < places m → uneven m gs q ≡ true → key-less (key m gs q) (key m gs (m .goal)) ≡ false
+  front : (o : Option ℕ) → Best (places m) o → below-goal m gs o ≡ false → (q : ℕ) → q < places m → uneven m gs q ≡ true →
+      key-less (key m gs q) (key m gs (m .goal)) ≡ false
   front None h f q l u = absurd (both-ways (uneven m gs q) (h q l) u)
   front (Some p) h f q l u = key-chain (key m gs (m .goal)) (key m gs p) (key m gs q) f (before-key (key m gs q) (key m gs p) q p (h .2 q l u))
 
-  no-front : (o : Option ℕ) → Best (places m) o → ((q : ℕ) → q < places m → uneven m gs q ≡ true → key-less (key m gs q) (key m gs (m .goal)) ≡ false) → below-goal m gs o ≡ false
+  no-front : (o : Option ℕ) → Best (places m) o → ((q : ℕ) → q < places m → uneven m gs q ≡ true → key-less (key m gs q) (key m gs (m .goal)) ≡ false) →
+      below-goal m gs o ≡ false
   no-front None h f = refl
   no-front (Some p) h f = f p (h .0) (h .1)
 
@@ -152,7 +158,8 @@ module _ (m : Meaning) (gs : List Price) where
 
   -- an uneven standing that is not above its lookahead is below it
   pub else-below : (p : ℕ) → (Even m gs p → ⊥) → less (lookahead m gs p) (standing-at gs p) ≡ false → less (standing-at gs p) (lookahead m gs p) ≡ true
-  else-below p u f = ⊎-elim (λ t. t) (λ g. absurd (u (less-total (standing-at gs p) (lookahead m gs p) g f))) (cases-bool (less (standing-at gs p) (lookahead m gs p)))
+  else-below p u f = ⊎-elim (λ t. t) (λ g. absurd (u (less-total (standing-at gs p) (lookahead m gs p) g f)))
+      (cases-bool (less (standing-at gs p) (lookahead m gs p)))
 
   changes : (p : ℕ) (b : Bool) → less (lookahead m gs p) (standing-at gs p) ≡ b → (Even m gs p → ⊥) →
       Changed (cond b lowered raised) (standing-at gs p) (lookahead m gs p) (cond b (lookahead m gs p) closed)
@@ -162,19 +169,24 @@ module _ (m : Meaning) (gs : List Price) where
   pub step-stepped : (p : ℕ) → places m ≤ length gs → next m gs ≡ Some p → Stepped m gs p (change-at m gs p) (step m gs p)
   step-stepped p long e = let t = next-taken p e in let l = t .inside in record {
       taken = t;
-      here = subst (Changed (change-at m gs p) (standing-at gs p) (lookahead m gs p)) (sym (step-here p (omega arith))) (changes p (less (lookahead m gs p) (standing-at gs p)) refl (t .uneven));
+      here = subst (Changed (change-at m gs p) (standing-at gs p) (lookahead m gs p)) (sym (step-here p (omega arith)))
+          (changes p (less (lookahead m gs p) (standing-at gs p)) refl (t .uneven));
       elsewhere = λ q n. step-elsewhere p q n;
       long = step-long p
     }
 
-  one-change : (p : ℕ) (c : Change) (v : Price) → Changed c (standing-at gs p) (lookahead m gs p) v → (c ≡ change-at m gs p) × (v ≡ changed (standing-at gs p) (lookahead m gs p))
+  one-change : (p : ℕ) (c : Change) (v : Price) → Changed c (standing-at gs p) (lookahead m gs p) v →
+      (c ≡ change-at m gs p) × (v ≡ changed (standing-at gs p) (lookahead m gs p))
   one-change p lowered v h =
-      (sym (cond-true (less (lookahead m gs p) (standing-at gs p)) lowered raised (h .0)), h .1 ∙ sym (cond-true (less (lookahead m gs p) (standing-at gs p)) (lookahead m gs p) closed (h .0)))
+      (sym (cond-true (less (lookahead m gs p) (standing-at gs p)) lowered raised (h .0)), h .1 ∙ sym
+          (cond-true (less (lookahead m gs p) (standing-at gs p)) (lookahead m gs p) closed (h .0)))
   one-change p raised v h =
       let f = less-one-way (standing-at gs p) (lookahead m gs p) (h .0) in
-      (sym (cond-false (less (lookahead m gs p) (standing-at gs p)) lowered raised f), h .1 ∙ sym (cond-false (less (lookahead m gs p) (standing-at gs p)) (lookahead m gs p) closed f))
+      (sym (cond-false (less (lookahead m gs p) (standing-at gs p)) lowered raised f), h .1 ∙ sym
+          (cond-false (less (lookahead m gs p) (standing-at gs p)) (lookahead m gs p) closed f))
 
-  pub stepped-step : (p : ℕ) (c : Change) (hs : List Price) → places m ≤ length gs → Stepped m gs p c hs → (next m gs ≡ Some p) × (c ≡ change-at m gs p) × (hs ≡ step m gs p)
+  pub stepped-step : (p : ℕ) (c : Change) (hs : List Price) → places m ≤ length gs → Stepped m gs p c hs →
+      (next m gs ≡ Some p) × (c ≡ change-at m gs p) × (hs ≡ step m gs p)
   stepped-step p c hs long s =
       let l = s .taken .inside in
       let t = one-change p c (standing-at hs p) (s .here) in

@@ -63,7 +63,8 @@ module _ (m : Meaning) (law : Lawful m) (x : ℕ) (inside : x < places m) where
       goal-in = omega (arith, same-places, inside);
       links-few = law .links-few; height-low = law .height-low;
       links-law = λ n. subst (λ c. Link-law (m .kind) c (m .height) (link-at m n)) (sym same-places) (law .links-law n);
-      estimates-law = λ p l. subst (Estimate-law (m .kind)) (sym (zero-estimate p (omega (arith, same-places)))) (room (estimate-at m (m .start)) (law .estimates-law (m .start) (law .start-in)));
+      estimates-law = λ p l. subst (Estimate-law (m .kind)) (sym (zero-estimate p (omega (arith, same-places))))
+          (room (estimate-at m (m .start)) (law .estimates-law (m .start) (law .start-in)));
       goal-zero = zero-estimate x inside;
       consistent = λ n. level n (link-at m n) refl
     }
@@ -89,12 +90,15 @@ module _ (m : Meaning) (law : Lawful m) (x : ℕ) (inside : x < places m) where
 
   fresh-bounds : Bounds toward fresh
   unfolding fresh
-  fresh-bounds = closed-within toward (replicate (places toward) closed) (omega (arith, length-replicate (places toward) closed)) (λ p l. getD-replicate (places toward) p closed closed l)
+  fresh-bounds = closed-within toward (replicate (places toward) closed) (omega (arith, length-replicate (places toward) closed))
+      (λ p l. getD-replicate (places toward) p closed closed l)
 
   found : (p : Price) × True-distance m x p
   found =
       let left = repair toward fresh .left in
-      (standing-at left x, same-distance (standing-at left x) (settled-distance toward toward-lawful left (run-bounds toward toward-lawful fresh fresh-bounds (2 * places toward)) (ends-settled toward toward-lawful fresh fresh-bounds)))
+      (standing-at left x, same-distance (standing-at left x)
+          (settled-distance toward toward-lawful left (run-bounds toward toward-lawful fresh fresh-bounds (2 * places toward))
+          (ends-settled toward toward-lawful fresh fresh-bounds)))
 
 pub some-distance : Some-distance
 some-distance m law x = ⊎-elim

@@ -14,7 +14,8 @@ pub priced-within : Priced-within
 priced-within m gs n p b = record { long = b .long; low = b .low }
 
 pub sums-open : Sums-open
-sums-open m law gs b n l e s p = uncapped-link m law (standing-at gs (l .from)) (l .price) (b .low (l .from) (link-law m law n l e .from-in)) (price-within m law n l e) s p
+sums-open m law gs b n l e s p = uncapped-link m law (standing-at gs (l .from)) (l .price) (b .low (l .from) (link-law m law n l e .from-in))
+    (price-within m law n l e) s p
 
 pub keys-open : Keys-open
 unfolding key

@@ -23,14 +23,16 @@ use Rattle.lifelong.specs.Bounds.{Bounds}
 module _ (m : Meaning) (gs : List Price) where
   pub look-start : lookahead m gs (m .start) ≡ zero-of (m .kind)
   unfolding lookahead
-  look-start = cond-true (eqb (m .start) (m .start)) (zero-of (m .kind)) (least-over (leads-into (m .start)) (through (m .kind) gs) (m .links)) (eq-eqb (m .start) (m .start) refl)
+  look-start = cond-true (eqb (m .start) (m .start)) (zero-of (m .kind)) (least-over (leads-into (m .start)) (through (m .kind) gs) (m .links))
+      (eq-eqb (m .start) (m .start) refl)
 
   pub look-other : (x : ℕ) → (x ≡ m .start → ⊥) → lookahead m gs x ≡ least-over (leads-into x) (through (m .kind) gs) (m .links)
   unfolding lookahead
   look-other x u = cond-false (eqb x (m .start)) (zero-of (m .kind)) (least-over (leads-into x) (through (m .kind) gs) (m .links)) (ne-eqb x (m .start) u)
 
   -- past the start, no link into a place costs less than its lookahead
-  pub look-below : (n : ℕ) (l : Link) → link-at m n ≡ Some l → (l .to ≡ m .start → ⊥) → less (sum (m .kind) (standing-at gs (l .from)) (l .price)) (lookahead m gs (l .to)) ≡ false
+  pub look-below : (n : ℕ) (l : Link) → link-at m n ≡ Some l → (l .to ≡ m .start → ⊥) →
+      less (sum (m .kind) (standing-at gs (l .from)) (l .price)) (lookahead m gs (l .to)) ≡ false
   look-below n l e u = rw (look-other (l .to) u) (least-below (leads-into (l .to)) (through (m .kind) gs) (m .links) n l e (eq-eqb (l .to) (l .to) refl))
 
   -- the link by which the lookahead of x comes about
@@ -62,7 +64,8 @@ module _ (m : Meaning) (law : Lawful m) (gs : List Price) (b : Bounds m gs) wher
   look-within x = ⊎-elim
       (λ (e : x ≡ m .start). rw (e, look-start m gs) (within-zero m law 4096))
       (λ (u : x ≡ m .start → ⊥). rw (look-other m gs x u)
-        (least-all (leads-into x) (through (m .kind) gs) (Within (m .kind) 4096) tt (m .links) (λ n. through-within n (link-at m n) refl))) (cases-eq x (m .start))
+        (least-all (leads-into x) (through (m .kind) gs) (Within (m .kind) 4096) tt (m .links) (λ n. through-within n (link-at m n) refl)))
+            (cases-eq x (m .start))
 
   pub look-proper : (x : ℕ) → Proper (m .kind) (lookahead m gs x)
   look-proper x = within-proper m law (lookahead m gs x) (look-within x)
@@ -72,4 +75,5 @@ module _ (m : Meaning) (law : Lawful m) (gs : List Price) (b : Bounds m gs) wher
 
   -- the smaller of the two has room for an estimate
   pub own-within : (x : ℕ) → x < places m → Within (m .kind) 4096 (smaller (standing-at gs x) (lookahead m gs x))
-  own-within x l = within-smaller (m .kind) 4096 (standing-at gs x) (lookahead m gs x) (within-more (m .kind) 4095 4096 (standing-at gs x) (omega arith) (b .low x l)) (look-within x)
+  own-within x l = within-smaller (m .kind) 4096 (standing-at gs x) (lookahead m gs x)
+      (within-more (m .kind) 4095 4096 (standing-at gs x) (omega arith) (b .low x l)) (look-within x)

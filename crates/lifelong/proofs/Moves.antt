@@ -98,8 +98,13 @@ module _ (k : Kind) (gs : List Price) (x : ℕ) where
 
   -- the first link's move, where those of the others are not nearer
   head-first : (n : ℕ) (l : Link) (ls : List (Option Link)) → leads-into x (Some l) ≡ true →
-      ((j : ℕ) (i : Link) → getD ls j None ≡ Some i → leads-into x (Some i) ≡ true → nearer (move-of k gs (suc n + j) i) (move-of k gs n l) ≡ false) → Found n (Some l ∷ ls) (move-of k gs n l)
-  head-first n l ls t h = record { at = 0; link = l; named = refl; leads = t; is = ap (λ i. move-of k gs i l) (let z : n ≡ n + 0 = omega arith in z); first = λ j. at j }
+      ((j : ℕ) (i : Link) → getD ls j None ≡ Some i → leads-into x (Some i) ≡ true → nearer (move-of k gs (suc n + j) i) (move-of k gs n l) ≡ false) →
+      Found n (Some l ∷ ls) (move-of k gs n l)
+  head-first n l ls t h = record {
+      at = 0; link = l; named = refl; leads = t;
+      is = ap (λ i. move-of k gs i l) (let z : n ≡ n + 0 = omega arith in z);
+      first = λ j. at j
+    }
     where
       at : (j : ℕ) (i : Link) → getD (Some l ∷ ls) j None ≡ Some i → leads-into x (Some i) ≡ true → nearer (move-of k gs (n + j) i) (move-of k gs n l) ≡ false
       at zero i e s =
@@ -108,8 +113,8 @@ module _ (k : Kind) (gs : List Price) (x : ℕ) where
           (λ c. nearer (move-of k gs (z c) (q c)) (move-of k gs n l)) ∙ nearer-self (move-of k gs n l)
       at (suc j) i e s = ap (λ c. nearer (move-of k gs c i) (move-of k gs n l)) (sym (shift n j)) ∙ h j i e s
 
-  chosen : (n : ℕ) (l : Link) (ls : List (Option Link)) (a : Move) (b : Bool) → nearer a (move-of k gs n l) ≡ b → leads-into x (Some l) ≡ true → Found (suc n) ls a →
-      Found n (Some l ∷ ls) (cond b a (move-of k gs n l))
+  chosen : (n : ℕ) (l : Link) (ls : List (Option Link)) (a : Move) (b : Bool) → nearer a (move-of k gs n l) ≡ b → leads-into x (Some l) ≡ true →
+      Found (suc n) ls a → Found n (Some l ∷ ls) (cond b a (move-of k gs n l))
   chosen n l ls a true e t h = record {
       at = suc (h .at); link = h .link; named = h .named; leads = h .leads;
       is = h .is ∙ ap (λ i. move-of k gs i (h .link)) (shift n (h .at));
@@ -128,15 +133,18 @@ module _ (k : Kind) (gs : List Price) (x : ℕ) where
   some-cond true a c = refl
   some-cond false a c = refl
 
-  taken : (n : ℕ) (l : Link) (ls : List (Option Link)) (o : Option Move) → leads-into x (Some l) ≡ true → Best (suc n) ls o → Best n (Some l ∷ ls) (nearest (Some (move-of k gs n l)) o)
+  taken : (n : ℕ) (l : Link) (ls : List (Option Link)) (o : Option Move) → leads-into x (Some l) ≡ true → Best (suc n) ls o →
+      Best n (Some l ∷ ls) (nearest (Some (move-of k gs n l)) o)
   taken n l ls None t h = head-first n l ls t (λ j i d s. absurd (h j i d s))
-  taken n l ls (Some a) t h = subst (Best n (Some l ∷ ls)) (sym (some-cond (nearer a (move-of k gs n l)) a (move-of k gs n l))) (chosen n l ls a (nearer a (move-of k gs n l)) refl t h)
+  taken n l ls (Some a) t h = subst (Best n (Some l ∷ ls)) (sym (some-cond (nearer a (move-of k gs n l)) a (move-of k gs n l)))
+      (chosen n l ls a (nearer a (move-of k gs n l)) refl t h)
 
   pub move-skip : (n : ℕ) (o : Option Link) (ls : List (Option Link)) → leads-into x o ≡ false → best-move k gs x n (o ∷ ls) ≡ best-move k gs x (suc n) ls
   unfolding best-move
   move-skip n o ls f = cond-false (leads-into x o) (nearest (move-over k gs n o) (best-move k gs x (suc n) ls)) (best-move k gs x (suc n) ls) f
 
-  pub move-take : (n : ℕ) (o : Option Link) (ls : List (Option Link)) → leads-into x o ≡ true → best-move k gs x n (o ∷ ls) ≡ nearest (move-over k gs n o) (best-move k gs x (suc n) ls)
+  pub move-take : (n : ℕ) (o : Option Link) (ls : List (Option Link)) → leads-into x o ≡ true →
+      best-move k gs x n (o ∷ ls) ≡ nearest (move-over k gs n o) (best-move k gs x (suc n) ls)
   unfolding best-move
   move-take n o ls t = cond-true (leads-into x o) (nearest (move-over k gs n o) (best-move k gs x (suc n) ls)) (best-move k gs x (suc n) ls) t
 
@@ -145,8 +153,10 @@ module _ (k : Kind) (gs : List Price) (x : ℕ) where
   best n [] = λ j l e t. let z : _≡_ {A = ℕ} 0 1 = cc in omega arith
   best n (None ∷ ls) = passed n None ls (best-move k gs x (suc n) ls) refl (best (suc n) ls)
   best n (Some l ∷ ls) = ⊎-elim
-      (λ (t : leads-into x (Some l) ≡ true). subst (Best n (Some l ∷ ls)) (sym (move-take n (Some l) ls t)) (taken n l ls (best-move k gs x (suc n) ls) t (best (suc n) ls)))
-      (λ (f : leads-into x (Some l) ≡ false). subst (Best n (Some l ∷ ls)) (sym (move-skip n (Some l) ls f)) (passed n (Some l) ls (best-move k gs x (suc n) ls) f (best (suc n) ls)))
+      (λ (t : leads-into x (Some l) ≡ true). subst (Best n (Some l ∷ ls)) (sym (move-take n (Some l) ls t))
+          (taken n l ls (best-move k gs x (suc n) ls) t (best (suc n) ls)))
+      (λ (f : leads-into x (Some l) ≡ false). subst (Best n (Some l ∷ ls)) (sym (move-skip n (Some l) ls f))
+          (passed n (Some l) ls (best-move k gs x (suc n) ls) f (best (suc n) ls)))
       (cases-bool (leads-into x (Some l)))
 
 -- a move, the link that it takes, and that no other link into the place is nearer

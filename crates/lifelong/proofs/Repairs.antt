@@ -46,7 +46,8 @@ module _ (m : Meaning) (law : Lawful m) where
       let no : x ≡ p → ⊥ = λ q. true-not-taken m law gs b p (next-taken m gs p e) (rw q at d) in ⊎-elim no
       (λ (j : Among x (expanded r)). true-kept w (step-bounds m law gs b p e) x (rw (step-elsewhere m gs p x no) d) j) i
 
-  true-stays : {n : ℕ} {gs : List Price} {r : Run} → Ran m n gs r → Bounds m gs → (x : ℕ) → True-distance m x (standing-at gs x) → True-distance m x (standing-at (r .left) x)
+  true-stays : {n : ℕ} {gs : List Price} {r : Run} → Ran m n gs r → Bounds m gs → (x : ℕ) → True-distance m x (standing-at gs x) →
+      True-distance m x (standing-at (r .left) x)
   true-stays spent b x d = d
   true-stays (stops s) b x d = d
   true-stays (stuck e) b x d = d
@@ -57,20 +58,24 @@ module _ (m : Meaning) (law : Lawful m) where
   -- a closed standing that is taken is lowered
   closed-lowered : (gs : List Price) (p : ℕ) → Taken m gs p → standing-at gs p ≡ closed → less (lookahead m gs p) (standing-at gs p) ≡ true
   closed-lowered gs p t c = ⊎-elim (λ (h : less (lookahead m gs p) (standing-at gs p) ≡ true). h)
-      (λ (f : less (lookahead m gs p) (standing-at gs p) ≡ false). absurd (both-ways (less closed (lookahead m gs p)) refl (rw c at (else-below m gs p (t .uneven) f))))
+      (λ (f : less (lookahead m gs p) (standing-at gs p) ≡ false). absurd
+          (both-ways (less closed (lookahead m gs p)) refl (rw c at (else-below m gs p (t .uneven) f))))
       (cases-bool (less (lookahead m gs p) (standing-at gs p)))
 
   -- so it is not raised again
-  closed-kept : {n : ℕ} {gs : List Price} {r : Run} → Ran m n gs r → Bounds m gs → (x : ℕ) → standing-at gs x ≡ closed → Among (record { place = x; change = raised }) (r .steps) → ⊥
+  closed-kept : {n : ℕ} {gs : List Price} {r : Run} → Ran m n gs r → Bounds m gs → (x : ℕ) → standing-at gs x ≡ closed →
+      Among (record { place = x; change = raised }) (r .steps) → ⊥
   closed-kept spent b x c i = i
   closed-kept (stops s) b x c i = i
   closed-kept (stuck e) b x c i = i
   closed-kept (takes {gs = gs} {r = r} p f e w) b x c i =
       let t = next-taken m gs p e in
       let here : x ≡ p → less (lookahead m gs p) (standing-at gs p) ≡ true = λ q. closed-lowered gs p t (rw q at c) in ⊎-elim
-      (λ (q : record { place = x; change = raised } ≡ expansion m gs p). not-raised (less (lookahead m gs p) (standing-at gs p)) (ap (λ (z : Expansion). z .change) q) (here (ap (λ (z : Expansion). z .place) q)))
+      (λ (q : record { place = x; change = raised } ≡ expansion m gs p). not-raised (less (lookahead m gs p) (standing-at gs p))
+          (ap (λ (z : Expansion). z .change) q) (here (ap (λ (z : Expansion). z .place) q)))
       (λ (j : Among (record { place = x; change = raised }) (r .steps)). ⊎-elim
-        (λ (q : x ≡ p). true-kept w (step-bounds m law gs b p e) p (taken-lowered m law gs b p t (here q)) (subst (λ z. Among z (expanded r)) q (map-among (λ (z : Expansion). z .place) (r .steps) (record { place = x; change = raised }) j)))
+        (λ (q : x ≡ p). true-kept w (step-bounds m law gs b p e) p (taken-lowered m law gs b p t (here q))
+            (subst (λ z. Among z (expanded r)) q (map-among (λ (z : Expansion). z .place) (r .steps) (record { place = x; change = raised }) j)))
         (λ (n : x ≡ p → ⊥). closed-kept w (step-bounds m law gs b p e) x (step-elsewhere m gs p x n ∙ c) j) (cases-eq x p)) i
 
   ran-distinct : {n : ℕ} {gs : List Price} {r : Run} → Ran m n gs r → Bounds m gs → Distinct (r .steps)
@@ -79,7 +84,8 @@ module _ (m : Meaning) (law : Lawful m) where
   ran-distinct (stuck e) b = tt
   ran-distinct (takes {gs = gs} {r = r} p f e w) b = let t = next-taken m gs p e in let b′ = step-bounds m law gs b p e in (
       (λ i. ⊎-elim
-        (λ (h : less (lookahead m gs p) (standing-at gs p) ≡ true). true-kept w b′ p (taken-lowered m law gs b p t h) (map-among (λ (z : Expansion). z .place) (r .steps) (expansion m gs p) i))
+        (λ (h : less (lookahead m gs p) (standing-at gs p) ≡ true). true-kept w b′ p (taken-lowered m law gs b p t h)
+            (map-among (λ (z : Expansion). z .place) (r .steps) (expansion m gs p) i))
         (λ (g : less (lookahead m gs p) (standing-at gs p) ≡ false). closed-kept w b′ p (taken-raised m law gs b p t g)
           (subst (λ c. Among (record { place = p; change = c }) (r .steps)) (cond-false (less (lookahead m gs p) (standing-at gs p)) lowered raised g) i))
         (cases-bool (less (lookahead m gs p) (standing-at gs p)))),
@@ -111,7 +117,8 @@ module _ (m : Meaning) (law : Lawful m) where
   ran-ends (takes {n = n} {r = r} p f e w) = ⊎-elim (λ (z : length (r .steps) ≡ n). inl (ap suc z)) (λ (z : settled m (r .left) ≡ true). inr z) (ran-ends w)
 
   -- keys of later steps
-  ran-key : {n : ℕ} {hs : List Price} {r : Run} → Ran m n hs r → (gs : List Price) → Bounds m gs → (p : ℕ) → next m gs ≡ Some p → hs ≡ step m gs p → (q : ℕ) → next m (r .left) ≡ Some q → key-less (key m (r .left) q) (key m gs p) ≡ false
+  ran-key : {n : ℕ} {hs : List Price} {r : Run} → Ran m n hs r → (gs : List Price) → Bounds m gs → (p : ℕ) → next m gs ≡ Some p → hs ≡ step m gs p → (q : ℕ) →
+      next m (r .left) ≡ Some q → key-less (key m (r .left) q) (key m gs p) ≡ false
   ran-key spent gs b p e s q d = rw s (next-key m law gs b p e q (rw s at d))
   ran-key (stops t) gs b p e s q d = rw s (next-key m law gs b p e q (rw s at d))
   ran-key (stuck t) gs b p e s q d = rw s (next-key m law gs b p e q (rw s at d))
@@ -139,7 +146,8 @@ module _ (m : Meaning) (law : Lawful m) where
     pub few-steps : (n : ℕ) → length (run m n gs .steps) ≤ 2 * places m
     few-steps n = ran-few (run-ran m n gs) b
 
-    pub later-key : (p : ℕ) → next m gs ≡ Some p → (n q : ℕ) → next m (run m n (step m gs p) .left) ≡ Some q → key-less (key m (run m n (step m gs p) .left) q) (key m gs p) ≡ false
+    pub later-key : (p : ℕ) → next m gs ≡ Some p → (n q : ℕ) → next m (run m n (step m gs p) .left) ≡ Some q →
+        key-less (key m (run m n (step m gs p) .left) q) (key m gs p) ≡ false
     later-key p e n q d = ran-key (run-ran m n (step m gs p)) gs b p e refl q d
 
     one-more : (hs : List Price) → settled m hs ≡ false → (o : Option ℕ) → next m hs ≡ o → 1 ≤ length (run m 1 hs .steps)

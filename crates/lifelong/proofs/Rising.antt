@@ -18,7 +18,8 @@ use Rattle.lifelong.specs.Step.{Even, Taken, next, step}
 use Rattle.lifelong.specs.Bounds.{Bounds}
 use Rattle.lifelong.proofs.Lookaheads.{By, look-proper, stand-proper}
 use Rattle.lifelong.proofs.Agreement.{else-below, next-taken, step-elsewhere, step-lowered}
-use Rattle.lifelong.proofs.Ranks.{Before, Upto, ahead, ahead-below, ahead-by, ahead-capped, ahead-start, before-by, below-not, cost, even-rank, key-reads, limit, number, or-even, over-link, pair, pair-at, plus, stand, stand-capped}
+use Rattle.lifelong.proofs.Ranks.{Before, Upto, ahead, ahead-below, ahead-by, ahead-capped, ahead-start, before-by, below-not, cost, even-rank, key-reads}
+use Rattle.lifelong.proofs.Ranks.{limit, number, or-even, over-link, pair, pair-at, plus, stand, stand-capped}
 use Rattle.lifelong.proofs.Reach.{link-key}
 use Rattle.lifelong.proofs.Steps.{step-bounds, taken-bound, taken-raised}
 
@@ -32,10 +33,13 @@ record Via (m : Meaning) (x v u w : ℕ) : Type 0 where
   least : plus m v (cost m link) ≤ w
 
 widened : (m : Meaning) (x v u w z : ℕ) → w ≤ z → Via m x v u w → Via m x v u z
-widened m x v u w z le t = record { number = t .number; link = t .link; named = t .named; from-is = t .from-is; to-is = t .to-is; least = omega (arith, t .least) }
+widened m x v u w z le t = record {
+    number = t .number; link = t .link; named = t .named; from-is = t .from-is; to-is = t .to-is; least = omega (arith, t .least)
+  }
 
 -- where only the standing of x differs, a lookahead that differs came by a link from x
-via : (m : Meaning) → Lawful m → (fs hs : List Price) → Bounds m fs → Bounds m hs → (x v : ℕ) → ((y : ℕ) → (y ≡ x → ⊥) → standing-at hs y ≡ standing-at fs y) → v ≤ stand m fs x →
+via : (m : Meaning) → Lawful m → (fs hs : List Price) → Bounds m fs → Bounds m hs → (x v : ℕ) → ((y : ℕ) → (y ≡ x → ⊥) → standing-at hs y ≡ standing-at fs y) →
+    v ≤ stand m fs x →
     (u : ℕ) → ahead m fs u < ahead m hs u → Via m x v u (ahead m fs u)
 via m law fs hs bf bh x v same le u lt = ⊎-elim at-start at-link (ahead-by m law fs bf u (omega (arith, ahead-capped m law hs bh u)))
   where
@@ -74,7 +78,8 @@ module _ (m : Meaning) (law : Lawful m) (gs : List Price) (b : Bounds m gs) (x :
         inl (less-rank (m .kind) (lookahead m gs x) (standing-at gs x) (look-proper m law gs b x) (stand-proper m law gs b x (t .inside)) h,
           ap (number m) (step-lowered m gs x (omega (arith, t .inside, b .long)) h)))
       (λ (f : less (lookahead m gs x) (standing-at gs x) ≡ false).
-        inr (less-rank (m .kind) (standing-at gs x) (lookahead m gs x) (stand-proper m law gs b x (t .inside)) (look-proper m law gs b x) (else-below m gs x (t .uneven) f),
+        inr (less-rank (m .kind) (standing-at gs x) (lookahead m gs x) (stand-proper m law gs b x (t .inside)) (look-proper m law gs b x)
+            (else-below m gs x (t .uneven) f),
           ap (number m) (taken-raised m law gs b x t f) ∙ rank-closed (m .kind)))
       (cases-bool (less (lookahead m gs x) (standing-at gs x)))
 
@@ -91,20 +96,24 @@ module _ (m : Meaning) (law : Lawful m) (gs : List Price) (b : Bounds m gs) (x :
       up : ahead m gs u < ahead m hs u → (ahead m hs u ≡ ahead m gs u) ⊎ Via m x v u (min (ahead m gs u) (ahead m hs u))
       up h = inr (widened m x v u (ahead m gs u) (min (ahead m gs u) (ahead m hs u)) (omega arith) (via m law gs hs b bh x v elsewhere (omega arith) u h))
       down : ahead m hs u < ahead m gs u → (ahead m hs u ≡ ahead m gs u) ⊎ Via m x v u (min (ahead m gs u) (ahead m hs u))
-      down h = inr (widened m x v u (ahead m hs u) (min (ahead m gs u) (ahead m hs u)) (omega arith) (via m law hs gs bh b x v (λ y n. sym (elsewhere y n)) v-new u h))
+      down h = inr (widened m x v u (ahead m hs u) (min (ahead m gs u) (ahead m hs u)) (omega arith)
+          (via m law hs gs bh b x v (λ y n. sym (elsewhere y n)) v-new u h))
 
   rises-self : (Even m hs x → ⊥) → Before (pair m gs x) (pair m hs x)
   rises-self u = ⊎-elim
       (λ (q : ahead m hs x ≡ ahead m gs x). ⊎-elim
         (λ (w : (ahead m gs x < stand m gs x) × (stand m hs x ≡ ahead m gs x)). absurd (u (even-rank m law hs bh x (t .inside) (omega arith))))
-        (λ (w : (stand m gs x < ahead m gs x) × (stand m hs x ≡ limit m)). let c = ahead-capped m law gs b x in before-by (pair m gs x) (pair m hs x) (λ z. omega arith)) new)
+        (λ (w : (stand m gs x < ahead m gs x) × (stand m hs x ≡ limit m)).
+          let c = ahead-capped m law gs b x in before-by (pair m gs x) (pair m hs x) (λ z. omega arith)) new)
       (λ (c : Via m x v x (min (ahead m gs x) (ahead m hs x))). absurd (link-law m law (c .number) (c .link) (c .named) .apart (c .from-is ∙ sym (c .to-is))))
       (change x)
 
   -- an uneven place keeps the key it had, or has one above that of the place taken
-  rises-other : (y : ℕ) → (y ≡ x → ⊥) → y < places m → (Even m hs y → ⊥) → ((Even m gs y → ⊥) × (min (stand m hs y) (ahead m hs y) ≡ min (stand m gs y) (ahead m gs y))) ⊎ Before (pair m gs x) (pair m hs y)
+  rises-other : (y : ℕ) → (y ≡ x → ⊥) → y < places m → (Even m hs y → ⊥) →
+      ((Even m gs y → ⊥) × (min (stand m hs y) (ahead m hs y) ≡ min (stand m gs y) (ahead m gs y))) ⊎ Before (pair m gs x) (pair m hs y)
   rises-other y n l u = let o : stand m hs y ≡ stand m gs y = ap (number m) (elsewhere y n) in ⊎-elim
-      (λ (q : ahead m hs y ≡ ahead m gs y). inl ((λ ev. let z : stand m gs y ≡ ahead m gs y = ap (number m) ev in u (even-rank m law hs bh y l (omega arith))), omega arith))
+      (λ (q : ahead m hs y ≡ ahead m gs y). inl
+          ((λ ev. let z : stand m gs y ≡ ahead m gs y = ap (number m) ev in u (even-rank m law hs bh y l (omega arith))), omega arith))
       (λ (c : Via m x v y (min (ahead m gs y) (ahead m hs y))).
         let least : plus m v (cost m (c .link)) ≤ min (ahead m gs y) (ahead m hs y) = c .least in ⊎-elim
         (λ (h : stand m gs y < plus m v (cost m (c .link))). inl ((λ ev. let z : stand m gs y ≡ ahead m gs y = ap (number m) ev in omega arith), omega arith))
@@ -127,4 +136,5 @@ module _ (m : Meaning) (law : Lawful m) (gs : List Price) (b : Bounds m gs) (x :
 
   pub next-key : (q : ℕ) → next m hs ≡ Some q → key-less (key m hs q) (key m gs x) ≡ false
   next-key q d = let w = next-taken m hs q d in
-      below-not m (key m hs q) (key m gs x) (pair m hs q) (pair m gs x) (key-reads m law hs bh q (w .inside)) (key-reads m law gs b x (t .inside)) (keys-rise q (w .inside) (w .uneven))
+      below-not m (key m hs q) (key m gs x) (pair m hs q) (pair m gs x) (key-reads m law hs bh q (w .inside)) (key-reads m law gs b x (t .inside))
+          (keys-rise q (w .inside) (w .uneven))

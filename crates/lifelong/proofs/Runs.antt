@@ -42,7 +42,8 @@ pub data Ran (m : Meaning) : ℕ → List Price → Run → Type 0 where
   spent : {gs : List Price} → Ran m 0 gs (stopped gs)
   stops : {n : ℕ} {gs : List Price} → settled m gs ≡ true → Ran m n gs (stopped gs)
   stuck : {n : ℕ} {gs : List Price} → next m gs ≡ None → Ran m n gs (stopped gs)
-  takes : {n : ℕ} {gs : List Price} {r : Run} (p : ℕ) → settled m gs ≡ false → next m gs ≡ Some p → Ran m n (step m gs p) r → Ran m (suc n) gs (after (expansion m gs p) r)
+  takes : {n : ℕ} {gs : List Price} {r : Run} (p : ℕ) → settled m gs ≡ false → next m gs ≡ Some p → Ran m n (step m gs p) r →
+      Ran m (suc n) gs (after (expansion m gs p) r)
 
 pub run-ran : (m : Meaning) (n : ℕ) (gs : List Price) → Ran m n gs (run m n gs)
 run-ran m zero gs = subst (Ran m 0 gs) (sym (run-none m gs)) spent

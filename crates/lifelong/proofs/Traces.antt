@@ -28,7 +28,8 @@ use Rattle.lifelong.specs.Shown.{Cheapest, One-trace, One-true-trace}
 use Rattle.lifelong.specs.Trace.{Move, True-move, True-trace, arrived, move, moved, moving, none, onto, shows, trace, traced, walk}
 use Rattle.lifelong.proofs.Lookaheads.{By, look-below, look-proper, stand-proper}
 use Rattle.lifelong.proofs.Moves.{Nearest, move-of, no-move, not-nearer, the-move}
-use Rattle.lifelong.proofs.Ranks.{Before, Pair, Upto, ahead, ahead-below, ahead-by, before-upto, cost, limit, number, over-link, pair, pair-at, plus, stand, upto-by}
+use Rattle.lifelong.proofs.Ranks.{Before, Pair, Upto, ahead, ahead-below, ahead-by, before-upto, cost, limit, number, over-link, pair, pair-at, plus, stand}
+use Rattle.lifelong.proofs.Ranks.{upto-by}
 use Rattle.lifelong.proofs.Reach.{Lower-bound, Least-chain, from-ahead, from-even, from-low, link-key, look-true, reach, least-more, least-start}
 use Rattle.lifelong.proofs.Agreement.{settled-is}
 use Rattle.lifelong.proofs.Steps.{settled-bound, settled-true}
@@ -36,7 +37,8 @@ use Rattle.lifelong.proofs.Steps.{settled-bound, settled-true}
 -- the walk, move by move
 pub data Walked (m : Meaning) (gs : List Price) : ℕ → List ℕ → Type 0 where
   at-start : Walked m gs (m .start) (m .start ∷ [])
-  by-move : {ps : List ℕ} (x : ℕ) (a : Move) → (x ≡ m .start → ⊥) → move m gs x ≡ Some a → is-open (a .cost) ≡ true → Walked m gs (a .from) ps → Walked m gs x (x ∷ ps)
+  by-move : {ps : List ℕ} (x : ℕ) (a : Move) → (x ≡ m .start → ⊥) → move m gs x ≡ Some a → is-open (a .cost) ≡ true → Walked m gs (a .from) ps →
+      Walked m gs x (x ∷ ps)
 
 module _ (m : Meaning) (gs : List Price) where
   pub walk-at-start : (n x : ℕ) → x ≡ m .start → walk m gs n x ≡ Some (x ∷ [])
@@ -77,16 +79,19 @@ module _ (m : Meaning) (law : Lawful m) (gs : List Price) (b : Bounds m gs) (k :
     by : By m gs x
     from-is : by .link .from ≡ taken .from
     cost-is : taken .cost ≡ lookahead m gs x
-    lowest : (n : ℕ) (l : Link) → link-at m n ≡ Some l → l .to ≡ x → sum (m .kind) (standing-at gs (l .from)) (l .price) ≡ lookahead m gs x → taken .from ≤ l .from
+    lowest : (n : ℕ) (l : Link) → link-at m n ≡ Some l → l .to ≡ x → sum (m .kind) (standing-at gs (l .from)) (l .price) ≡ lookahead m gs x →
+        taken .from ≤ l .from
 
   moves-by : (x : ℕ) → (x ≡ m .start → ⊥) → (a : Move) → move m gs x ≡ Some a → By m gs x → Move-by x
   moves-by x u a e y =
       let h : Nearest m gs x a = the-move m gs x a e in
       let c : sum (m .kind) (standing-at gs (h .link .from)) (h .link .price) ≡ a .cost = sym (ap (λ (z : Move). z .cost) (h .is)) in
       let f : h .link .from ≡ a .from = sym (ap (λ (z : Move). z .from) (h .is)) in
-      let above : less (lookahead m gs x) (a .cost) ≡ false = rw (y .gives) (not-nearer (move-of (m .kind) gs (y .number) (y .link)) a (h .first (y .number) (y .link) (y .named) (y .to-is)) .0) in
+      let above : less (lookahead m gs x) (a .cost) ≡ false =
+          rw (y .gives) (not-nearer (move-of (m .kind) gs (y .number) (y .link)) a (h .first (y .number) (y .link) (y .named) (y .to-is)) .0) in
       let below : less (sum (m .kind) (standing-at gs (h .link .from)) (h .link .price)) (lookahead m gs x) ≡ false =
-          subst (λ (z : ℕ). less (sum (m .kind) (standing-at gs (h .link .from)) (h .link .price)) (lookahead m gs z) ≡ false) (h .to-is) (look-below m gs (h .number) (h .link) (h .named) (λ q. u (sym (h .to-is) ∙ q))) in
+          subst (λ (z : ℕ). less (sum (m .kind) (standing-at gs (h .link .from)) (h .link .price)) (lookahead m gs z) ≡ false) (h .to-is)
+              (look-below m gs (h .number) (h .link) (h .named) (λ q. u (sym (h .to-is) ∙ q))) in
       let same : a .cost ≡ lookahead m gs x = less-total (a .cost) (lookahead m gs x) (rw c at below) above in
       record {
         taken = a; is = e;
@@ -121,9 +126,11 @@ module _ (m : Meaning) (law : Lawful m) (gs : List Price) (b : Bounds m gs) (k :
     standing-low h =
         let o : ahead m gs x < limit m = f .opens in ⊎-elim
         (λ (w : (ps : List ℕ) × Chain m (l .from) ps p).
-          let first : Before (pair-at m (l .from) (number m p)) (pair-at m (l .to) (ahead m gs x)) = link-key m law n l e (number m p) (ahead m gs x) (omega arith) h in
+          let first : Before (pair-at m (l .from) (number m p)) (pair-at m (l .to) (ahead m gs x)) =
+              link-key m law n l e (number m p) (ahead m gs x) (omega arith) h in
           reach m law gs b k bound (w .1) (before-upto (pair-at m (l .from) (number m p)) (pair-at m (l .to) (ahead m gs x)) k first (rw t (f .low))))
-        (λ (w : (p ≡ closed) × ((ps : List ℕ) (q : Price) → Chain m (l .from) ps q → ⊥)). let z : number m p ≡ limit m = ap (number m) (w .0) ∙ rank-closed (m .kind) in absurd (omega arith)) (d .met)
+        (λ (w : (p ≡ closed) × ((ps : List ℕ) (q : Price) → Chain m (l .from) ps q → ⊥)).
+          let z : number m p ≡ limit m = ap (number m) (w .0) ∙ rank-closed (m .kind) in absurd (omega arith)) (d .met)
 
     ahead-low : ahead m gs x ≤ plus m (stand m gs (l .from)) (cost m l)
     ahead-low = subst (λ (z : ℕ). ahead m gs z ≤ plus m (stand m gs (l .from)) (cost m l)) t (ahead-below m law gs b n l e)
@@ -142,7 +149,8 @@ module _ (m : Meaning) (law : Lawful m) (gs : List Price) (b : Bounds m gs) (k :
         let s : stand m gs (l .from) ≤ number m p = standing-low (omega arith) in
         let a = ahead-low in
         rank-same (m .kind) (sum (m .kind) (standing-at gs (l .from)) (l .price)) (lookahead m gs x)
-          (sum-proper (m .kind) (standing-at gs (l .from)) (l .price) (stand-proper m law gs b (l .from) (link-law m law n l e .from-in)) (price-proper m law n l e)) (look-proper m law gs b x)
+          (sum-proper (m .kind) (standing-at gs (l .from)) (l .price) (stand-proper m law gs b (l .from) (link-law m law n l e .from-in))
+              (price-proper m law n l e)) (look-proper m law gs b x)
           (omega (arith, over-link m law gs b n l e))
 
   -- so the move is one by true distances
@@ -180,7 +188,8 @@ module _ (m : Meaning) (law : Lawful m) (gs : List Price) (b : Bounds m gs) (k :
           record {
             met = x ∷ s .met;
             least-chain = least-more m law gs b k bound x y (f .opens) (f .low) (s .least-chain);
-            walked = by-move x (h .taken) u (h .is) (ap is-open (h .cost-is) ∙ below-top-is-open (m .kind) (lookahead m gs x) (f .opens)) (subst (λ (z : ℕ). Walked m gs z (s .met)) (h .from-is) (s .walked));
+            walked = by-move x (h .taken) u (h .is) (ap is-open (h .cost-is) ∙ below-top-is-open (m .kind) (lookahead m gs x) (f .opens))
+                (subst (λ (z : ℕ). Walked m gs z (s .met)) (h .from-is) (s .walked));
             true-trace = moved x u (true-move x f h) (subst (λ (z : ℕ). True-trace m z (s .met)) (h .from-is) (s .true-trace))
           }
 
@@ -202,12 +211,14 @@ module _ (m : Meaning) (law : Lawful m) (gs : List Price) (b : Bounds m gs) (t :
   shows-cheapest o =
       let s = settled-is m gs t in
       let k = pair m gs (m .goal) in
-      let w : Shown m law gs b k (settled-bound m law gs b s) (m .goal) = shown m law gs b k (settled-bound m law gs b s) (suc (ahead m gs (m .goal))) (m .goal) (omega arith) (settled-fixed o) in
+      let w : Shown m law gs b k (settled-bound m law gs b s) (m .goal) =
+          shown m law gs b k (settled-bound m law gs b s) (suc (ahead m gs (m .goal))) (m .goal) (omega arith) (settled-fixed o) in
       let c : Chain m (m .goal) (w .met) (standing-at gs (m .goal)) = subst (Chain m (m .goal) (w .met)) (sym (s .even)) (w .least-chain .chain) in
       let f : length (w .met) ≤ places m = chain-few m law c in
       let r : reverse (reverse (w .met)) ≡ w .met = reverse-reverse (w .met) in
       (reverse (w .met), record {
-        shown = cond-true (is-open (standing-at gs (m .goal))) (traced (walk m gs (places m) (m .goal))) none o ∙ ap traced (walked-walk m gs (places m) (w .walked) (omega arith));
+        shown = cond-true (is-open (standing-at gs (m .goal))) (traced (walk m gs (places m) (m .goal))) none o ∙ ap traced
+            (walked-walk m gs (places m) (w .walked) (omega arith));
         moves = omega (arith, length-reverse (w .met));
         route = subst (λ ps. Chain m (m .goal) ps (standing-at gs (m .goal))) (sym r) c;
         as-places = least-price m law c settled-distance;
@@ -243,8 +254,10 @@ one-move m x y z p q =
     let dp : True-distance m (p .link .from) (p .far) = subst (λ (w : ℕ). True-distance m w (p .far)) (sym (p .from-is)) (p .is-far) in
     let a = p .least (q .number) (q .link) (q .far) (q .named) (q .to-is) dq in
     let c = q .least (p .number) (p .link) (p .far) (p .named) (p .to-is) dp in
-    let same : sum (m .kind) (q .far) (q .link .price) ≡ sum (m .kind) (p .far) (p .link .price) = less-total (sum (m .kind) (q .far) (q .link .price)) (sum (m .kind) (p .far) (p .link .price)) a c in
-    omega (arith, p .lowest (q .number) (q .link) (q .far) (q .named) (q .to-is) dq same, q .lowest (p .number) (p .link) (p .far) (p .named) (p .to-is) dp (sym same), p .from-is, q .from-is)
+    let same : sum (m .kind) (q .far) (q .link .price) ≡ sum (m .kind) (p .far) (p .link .price) =
+        less-total (sum (m .kind) (q .far) (q .link .price)) (sum (m .kind) (p .far) (p .link .price)) a c in
+    omega (arith, p .lowest (q .number) (q .link) (q .far) (q .named) (q .to-is) dq same, q .lowest (p .number) (p .link) (p .far) (p .named) (p .to-is) dp
+        (sym same), p .from-is, q .from-is)
 
 same-trace : (m : Meaning) {x y : ℕ} {ps qs : List ℕ} → x ≡ y → True-trace m x ps → True-trace m y qs → ps ≡ qs
 same-trace m e arrived arrived = refl
@@ -258,7 +271,9 @@ one-true-trace m law x ps qs p q = same-trace m refl p q
 
 pub one-trace : One-trace
 one-trace m law gs hs bg bh tg th =
-    let e : standing-at gs (m .goal) ≡ standing-at hs (m .goal) = one-distance m law (m .goal) (standing-at gs (m .goal)) (standing-at hs (m .goal)) (settled-distance m law gs bg tg) (settled-distance m law hs bh th) in
+    let e : standing-at gs (m .goal) ≡ standing-at hs (m .goal) =
+        one-distance m law (m .goal) (standing-at gs (m .goal)) (standing-at hs (m .goal)) (settled-distance m law gs bg tg)
+        (settled-distance m law hs bh th) in
     ⊎-elim
     (λ (o : is-open (standing-at gs (m .goal)) ≡ true).
       let p = shows-cheapest m law gs bg tg o in

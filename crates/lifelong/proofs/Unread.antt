@@ -33,7 +33,8 @@ module _ (m : Meaning) (law : Lawful m) where
   module _ (gs hs : List Price) (a : Agree m gs hs) where
     look-same : (x : ℕ) → lookahead m gs x ≡ lookahead m hs x
     unfolding lookahead
-    look-same x = ap (cond (eqb x (m .start)) (zero-of (m .kind))) (least-same (leads-into x) (through (m .kind) gs) (through (m .kind) hs) (m .links) (λ n. through-same gs hs a n (link-at m n) refl))
+    look-same x = ap (cond (eqb x (m .start)) (zero-of (m .kind)))
+        (least-same (leads-into x) (through (m .kind) gs) (through (m .kind) hs) (m .links) (λ n. through-same gs hs a n (link-at m n) refl))
 
     even-same : (x : ℕ) → x < places m → Even m gs x → Even m hs x
     even-same x l e = sym (a x l) ∙ e ∙ look-same x
@@ -63,7 +64,8 @@ module _ (m : Meaning) (law : Lawful m) where
     settled-too : settled m gs ≡ true → settled m hs ≡ true
     settled-too t = let s = settled-is m gs t in is-settled m hs (record {
         even = even-same gs hs a (m .goal) (law .goal-in) (s .even);
-        first = λ q l u. sym (λ i. key-less (key-same gs hs a q l i) (key-same gs hs a (m .goal) (law .goal-in) i)) ∙ s .first q l (λ e. u (even-same gs hs a q l e))
+        first = λ q l u. sym (λ i. key-less (key-same gs hs a q l i) (key-same gs hs a (m .goal) (law .goal-in) i)) ∙ s .first q l
+            (λ e. u (even-same gs hs a q l e))
       })
 
   settled-same : (gs hs : List Price) → Agree m gs hs → settled m gs ≡ settled m hs
@@ -89,12 +91,17 @@ module _ (m : Meaning) (law : Lawful m) where
   run-agree : (n : ℕ) (gs hs : List Price) → Agree m gs hs → places m ≤ length gs → places m ≤ length hs → Runs-agree (run m n gs) (run m n hs)
   run-agree zero gs hs a lg lh = rw (run-none m gs, run-none m hs) (record { steps = refl; left = a })
   run-agree (suc n) gs hs a lg lh = ⊎-elim
-      (λ (t : settled m gs ≡ true). rw (run-settled m gs (suc n) t, run-settled m hs (suc n) (sym (settled-same gs hs a) ∙ t)) (record { steps = refl; left = a }))
-      (λ (f : settled m gs ≡ false). on f (λ p l. run-agree n (step m gs p) (step m hs p) (step-same gs hs a lg lh p l) (omega (arith, step-long m gs p)) (omega (arith, step-long m hs p))) (next m gs) refl)
+      (λ (t : settled m gs ≡ true). rw (run-settled m gs (suc n) t, run-settled m hs (suc n) (sym (settled-same gs hs a) ∙ t))
+          (record { steps = refl; left = a }))
+      (λ (f : settled m gs ≡ false). on f
+          (λ p l. run-agree n (step m gs p) (step m hs p) (step-same gs hs a lg lh p l) (omega (arith, step-long m gs p)) (omega (arith, step-long m hs p)))
+          (next m gs) refl)
       (cases-bool (settled m gs))
     where
-      on : settled m gs ≡ false → ((p : ℕ) → p < places m → Runs-agree (run m n (step m gs p)) (run m n (step m hs p))) → (o : Option ℕ) → next m gs ≡ o → Runs-agree (run m (suc n) gs) (run m (suc n) hs)
-      on f ih None e = rw (run-stuck m gs (suc n) f e, run-stuck m hs (suc n) (sym (settled-same gs hs a) ∙ f) (next-by gs hs a None e)) (record { steps = refl; left = a })
+      on : settled m gs ≡ false → ((p : ℕ) → p < places m → Runs-agree (run m n (step m gs p)) (run m n (step m hs p))) → (o : Option ℕ) → next m gs ≡ o →
+          Runs-agree (run m (suc n) gs) (run m (suc n) hs)
+      on f ih None e = rw (run-stuck m gs (suc n) f e, run-stuck m hs (suc n) (sym (settled-same gs hs a) ∙ f) (next-by gs hs a None e))
+          (record { steps = refl; left = a })
       on f ih (Some p) e =
           let l = next-taken m gs p e .inside in
           let r = ih p l in
@@ -107,7 +114,9 @@ module _ (m : Meaning) (law : Lawful m) where
     over-same k n None e = refl
     over-same k n (Some l) e = ap (λ p. Some (record { number = k; from = l .from; cost = p })) (through-same gs hs a n (Some l) e)
 
-    best-same : (x k : ℕ) (ls : List (Option Link)) → ((j : ℕ) (i : ℕ) → move-over (m .kind) gs i (getD ls j None) ≡ move-over (m .kind) hs i (getD ls j None)) → best-move (m .kind) gs x k ls ≡ best-move (m .kind) hs x k ls
+    best-same : (x k : ℕ) (ls : List (Option Link)) →
+        ((j : ℕ) (i : ℕ) → move-over (m .kind) gs i (getD ls j None) ≡ move-over (m .kind) hs i (getD ls j None)) → best-move (m .kind) gs x k ls ≡ best-move
+        (m .kind) hs x k ls
     unfolding best-move
     best-same x k [] h = refl
     best-same x k (l ∷ ls) h = let r = best-same x (suc k) ls (λ j. h (suc j)) in λ i. cond (leads-into x l) (nearest (h 0 k i) (r i)) (r i)

@@ -20,8 +20,10 @@ use Rattle.lifelong.specs.Examples.{All-hold, Premises-met, Refused, fresh, ta
 
 links : (n : ℕ) → Link-law lift-kind 3 0 (link-at three n)
 links zero = record { from-in = omega arith; to-in = omega arith; apart = λ e. omega arith; floor-open = refl; floor-above = refl; floor-fits = refl; price-above = refl; price-fits = refl; held-by = omega arith }
-links (suc zero) = record { from-in = omega arith; to-in = omega arith; apart = λ e. omega arith; floor-open = refl; floor-above = refl; floor-fits = refl; price-above = refl; price-fits = refl; held-by = omega arith }
-links (suc (suc zero)) = record { from-in = omega arith; to-in = omega arith; apart = λ e. omega arith; floor-open = refl; floor-above = refl; floor-fits = refl; price-above = refl; price-fits = refl; held-by = omega arith }
+links (suc zero) = record
+    { from-in = omega arith; to-in = omega arith; apart = λ e. omega arith; floor-open = refl; floor-above = refl; floor-fits = refl; price-above = refl; price-fits = refl; held-by = omega arith }
+links (suc (suc zero)) = record
+    { from-in = omega arith; to-in = omega arith; apart = λ e. omega arith; floor-open = refl; floor-above = refl; floor-fits = refl; price-above = refl; price-fits = refl; held-by = omega arith }
 links (suc (suc (suc n))) = tt
 
 estimates : (p : ℕ) → p < 3 → Estimate-law lift-kind (estimate-at three p)
@@ -48,7 +50,7 @@ bounds = closed-within three (fresh three) (omega arith) (λ p l. getD-replicate
 pub premises-met : Premises-met
 unfolding run settled next-below uneven key lookahead least-over step
 premises-met = record {
-  lawful = three-lawful; bounds = bounds; steps = refl; lowers = refl; settles = refl; shows-route = refl; true-standing = start-distance three three-lawful
+  lawful = three-lawful; bounds = bounds; steps = refl; steps-again = refl; lowers = refl; settles = refl; shows-route = refl; true-standing = start-distance three three-lawful
 }
 
 pub table-holds : All-hold table

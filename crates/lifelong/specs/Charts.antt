@@ -11,6 +11,7 @@ use Rattle.std.specs.declared.option.Option.the-variants.{Some, None}
 abbrev pub ms : ℕ → Price
 ms n = open-at (0 ∷ n ∷ [])
 
+-- a link from a to b with a floor of one millisecond
 abbrev pub link : ℕ → ℕ → Price → ℕ → Option Link
 link a b p held = Some (record { from = a; to = b; floor = ms 1; price = p; held = held })
 
@@ -51,6 +52,7 @@ guarded = record {
 abbrev pub at-once : Meaning
 at-once = record { kind = lift-kind; start = 0; goal = 0; height = 0; links = three .links; estimates = three .estimates }
 
+-- a link from a to b with floor and price 5
 abbrev pub five : ℕ → ℕ → Option Link
 five a b = Some (record { from = a; to = b; floor = open-at (5 ∷ []); price = open-at (5 ∷ []); held = 0 })
 

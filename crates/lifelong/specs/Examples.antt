@@ -12,19 +12,22 @@ use Rattle.chart.specs.Routes.{True-distance}
 use Rattle.std.specs.declared.option.Option.{Option}
 use Rattle.std.specs.declared.option.Option.the-variants.{Some}
 use Rattle.lifelong.specs.Standings.{lookahead, standing-at}
-use Rattle.lifelong.specs.Step.{next, settled}
+use Rattle.lifelong.specs.Step.{next, settled, step}
 use Rattle.lifelong.specs.Run.{repair}
 use Rattle.lifelong.specs.Trace.{Traced, none, shows, trace}
 use Rattle.lifelong.specs.Bounds.{Bounds}
 use Rattle.lifelong.specs.Charts.{at-once, beside, guarded, ms, swapped, three}
 
+-- all standings closed
 abbrev pub fresh : Meaning → List Price
 fresh m = replicate (places m) closed
 
+-- the standings that a repair leaves
 abbrev pub repaired : Meaning → List Price → List Price
 repaired m gs = repair m gs .left
 
--- a chart and standings, and of the repair from them: the goal's standing, how many steps, and what a trace then answers
+-- a chart and standings, and of the repair from them: the goal's standing, how many steps it takes, and what a trace
+-- then answers
 pub record Row : Type 0 where
   pub chart : Meaning
   pub standings : List Price
@@ -32,21 +35,26 @@ pub record Row : Type 0 where
   pub steps : ℕ
   pub answer : Traced
 
+-- a row of the table
 abbrev pub row : Meaning → List Price → Price → ℕ → Traced → Row
 row m gs p n t = record { chart = m; standings = gs; distance = p; steps = n; answer = t }
 
+-- what a row claims is so
 pub record Holds (r : Row) : Type 0 where
   pub distance : standing-at (repaired (r .chart) (r .standings)) (r .chart .goal) ≡ r .distance
   pub steps : length (repair (r .chart) (r .standings) .steps) ≡ r .steps
   pub answer : trace (r .chart) (repaired (r .chart) (r .standings)) ≡ r .answer
 
+-- every row holds
 abbrev pub All-hold : List Row → Type 0
 All-hold [] = Unit {0}
 All-hold (r ∷ rs) = Holds r × All-hold rs
 
+-- three places with link 1 closed
 abbrev pub without-1 : Meaning
 without-1 = priced three 1 closed
 
+-- the table
 abbrev pub table : List Row
 table =
     -- repaired, then with link 1 closed, then with link 2 closed too
@@ -63,6 +71,7 @@ table =
     ∷ row (priced beside 1 closed) (repaired beside (fresh beside)) closed 1 none
     ∷ []
 
+-- the refusal with a number, of link n, at a height
 abbrev pub refused-by : ℕ → ℕ → ℕ → Option Refusal
 refused-by number n height = Some (record { by = number; link = Some n; height = height })
 
@@ -77,6 +86,7 @@ pub record Premises-met : Type 0 where
   pub lawful : Lawful three
   pub bounds : Bounds three (fresh three)
   pub steps : next three (fresh three) ≡ Some 0
+  pub steps-again : next three (step three (fresh three) 0) ≡ Some 1
   pub lowers : less (lookahead three (fresh three) 0) (standing-at (fresh three) 0) ≡ true
   pub settles : settled three (repaired three (fresh three)) ≡ true
   pub shows-route : is-open (standing-at (repaired three (fresh three)) 2) ≡ true

@@ -20,12 +20,15 @@ pub record Run : Type 0 where
   pub steps : List Expansion
   pub left : List Price
 
+-- no step
 abbrev pub stopped : List Price → Run
 stopped gs = record { steps = []; left = gs }
 
+-- a step, then a run
 abbrev pub after : Expansion → Run → Run
 after e r = record { steps = e ∷ r .steps; left = r .left }
 
+-- a step at the place to be taken, then the run from there; no step where there is none
 abbrev pub taking : Meaning → List Price → Option ℕ → (ℕ → Run) → Run
 taking m gs None then = stopped gs
 taking m gs (Some p) then = after (record { place = p; change = change-at m gs p }) (then p)
@@ -54,4 +57,5 @@ then-run r s = record { steps = r .steps ++ s .steps; left = s .left }
 
 -- a run of a + b steps is a run of a, and then of b
 abbrev pub Runs-join : Type 0
-Runs-join = (m : Meaning) (a b : ℕ) (gs : List Price) → run m (a + b) gs ≡ then-run (run m a gs) (run m b (run m a gs .left))
+Runs-join = (m : Meaning) (a b : ℕ) (gs : List Price) →
+    run m (a + b) gs ≡ then-run (run m a gs) (run m b (run m a gs .left))

@@ -13,6 +13,7 @@ use Rattle.lifelong.specs.Step.{settled}
 use Rattle.lifelong.specs.Trace.{True-trace, none, shows, trace}
 use Rattle.lifelong.specs.Bounds.{Always, Bounds}
 
+-- these places are the cheapest route, and the trace shows them
 pub record Cheapest (m : Meaning) (gs : List Price) (ps : List ℕ) : Type 0 where
   -- the trace reaches the start, in fewer moves than there are places
   pub shown : trace m gs ≡ shows ps
@@ -26,11 +27,12 @@ pub record Cheapest (m : Meaning) (gs : List Price) (ps : List ℕ) : Type 0 whe
   -- at each place it goes to the from place of least true distance plus price, of equals the lowest number
   pub by-distances : True-trace m (m .goal) (reverse ps)
 
+-- settled, with an open goal, the trace shows a cheapest route
 abbrev pub Shows-cheapest : Type 0
 Shows-cheapest = Always (λ m gs. settled m gs ≡ true →
     is-open (standing-at gs (m .goal)) ≡ true → (ps : List ℕ) × Cheapest m gs ps)
 
--- it has none to show exactly when no route stands
+-- a settled trace has none to show exactly when no route stands
 abbrev pub None-without-route : Type 0
 None-without-route = Always (λ m gs. settled m gs ≡ true →
     (trace m gs ≡ none → No-route m) × (No-route m → trace m gs ≡ none))

@@ -26,6 +26,7 @@ through k gs (Some l) = sum k (standing-at gs (l .from)) (l .price)
 unfoldable pub lookahead : Meaning → List Price → ℕ → Price
 lookahead m gs p = cond (eqb p (m .start)) (zero-of (m .kind)) (least-over (leads-into p) (through (m .kind) gs) (m .links))
 
+-- one is below the other
 abbrev pub differ : Price → Price → Bool
 differ a b = less a b || less b a
 
@@ -37,6 +38,6 @@ uneven m gs p = differ (standing-at gs p) (lookahead m gs p)
 abbrev pub key-for : Meaning → ℕ → Price → Key
 key-for m p s = record { whole = sum (m .kind) s (estimate-at m p); own = s }
 
--- key: (s + estimate, s), where s is the smaller of standing and lookahead
+-- key: the priority of a place, (s + estimate, s), where s is the smaller of standing and lookahead
 unfoldable pub key : Meaning → List Price → ℕ → Key
 key m gs p = key-for m p (smaller (standing-at gs p) (lookahead m gs p))

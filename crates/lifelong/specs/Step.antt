@@ -25,21 +25,25 @@ next-below m gs (suc n) = cond (uneven m gs n) (better m gs (next-below m gs n) 
 abbrev pub next : Meaning → List Price → Option ℕ
 next m gs = next-below m gs (places m)
 
--- a standing above its lookahead is lowered to it (overconsistent); one below is raised to closed (underconsistent)
+-- a standing above its lookahead is lowered to it (locally overconsistent);
+-- one below its lookahead is raised to closed (locally underconsistent)
 pub data Change : Type 0 where
   lowered : Change
   raised : Change
 
+-- which of the two an uneven standing calls for
 abbrev pub change-of : Price → Price → Change
 change-of standing ahead = cond (less ahead standing) lowered raised
 
+-- the standing that is left
 abbrev pub changed : Price → Price → Price
 changed standing ahead = cond (less ahead standing) ahead closed
 
--- the change that a step makes at a place, and the standings after it
+-- what a step does at a place
 abbrev pub change-at : Meaning → List Price → ℕ → Change
 change-at m gs p = change-of (standing-at gs p) (lookahead m gs p)
 
+-- step: the expansion of a place. Its standing changes, and no other
 unfoldable pub step : Meaning → List Price → ℕ → List Price
 step m gs p = set gs p (changed (standing-at gs p) (lookahead m gs p))
 
@@ -48,12 +52,14 @@ abbrev pub below-goal : Meaning → List Price → Option ℕ → Bool
 below-goal m gs None = false
 below-goal m gs (Some p) = key-less (key m gs p) (key m gs (m .goal))
 
--- settled: the search may stop. The goal is even, and the place that a step would take has no key below the goal's
+-- settled: the loop of ComputeShortestPath ends. The goal is even, and the place that a step would take has no key
+-- below the goal's
 unfoldable pub settled : Meaning → List Price → Bool
 settled m gs = not (uneven m gs (m .goal)) && not (below-goal m gs (next m gs))
 
 -- The relations.
 
+-- even: locally consistent
 abbrev pub Even : Meaning → List Price → ℕ → Type 0
 Even m gs p = standing-at gs p ≡ lookahead m gs p
 
@@ -63,6 +69,7 @@ pub record Taken (m : Meaning) (gs : List Price) (p : ℕ) : Type 0 where
   pub uneven : Even m gs p → ⊥
   pub first : (q : ℕ) → q < places m → (Even m gs q → ⊥) → before (key m gs q) q (key m gs p) p ≡ false
 
+-- the change that is made, and the standing that it leaves
 abbrev pub Changed : Change → Price → Price → Price → Type 0
 Changed lowered standing ahead new = (less ahead standing ≡ true) × (new ≡ ahead)
 Changed raised standing ahead new = (less standing ahead ≡ true) × (new ≡ closed)
@@ -79,7 +86,7 @@ pub record Settled (m : Meaning) (gs : List Price) : Type 0 where
   pub even : Even m gs (m .goal)
   pub first : (q : ℕ) → q < places m → (Even m gs q → ⊥) → key-less (key m gs q) (key m gs (m .goal)) ≡ false
 
--- What is computed is what the relations say.
+-- what is computed is what the relations say
 pub record Steps-agree (m : Meaning) (gs : List Price) : Type 0 where
   pub uneven-computed : (p : ℕ) → uneven m gs p ≡ true → Even m gs p → ⊥
   pub even-computed : (p : ℕ) → uneven m gs p ≡ false → Even m gs p

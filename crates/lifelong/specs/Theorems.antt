@@ -16,7 +16,7 @@ use Rattle.lifelong.specs.Run.{expanded, how-often, repair, run}
 use Rattle.lifelong.specs.Trace.{trace}
 use Rattle.lifelong.specs.Bounds.{Always}
 
--- what is computed is what the relations say, of any chart and any standings
+-- of any chart and any standings, what is computed is what the relations say
 abbrev pub Definitions-agree : Type 0
 Definitions-agree = (m : Meaning) (gs : List Price) → Steps-agree m gs
 
@@ -50,6 +50,7 @@ Later-keys = Always (λ m gs. (p : ℕ) → next m gs ≡ Some p →
 -- Runs: no place is lowered twice or raised twice, so none is expanded more than twice, two steps for each place
 -- suffice, and a repair ends settled.
 
+-- the same change at the same place stands only once among the steps
 abbrev pub Never-twice : Type 0
 Never-twice = Always (λ m gs. (n : ℕ) → Distinct (run m n gs .steps))
 
@@ -83,6 +84,7 @@ True-kept = Always (λ m gs. (n x : ℕ) → True-distance m x (standing-at gs x
 
 -- What lies past the places is never read: where two lists of standings agree at the places, all answers are the same.
 
+-- equal at every place
 abbrev pub Agree : Meaning → List Price → List Price → Type 0
 Agree m gs hs = (p : ℕ) → p < places m → standing-at gs p ≡ standing-at hs p
 

@@ -19,6 +19,7 @@ pub record Move : Type 0 where
   pub from : ℕ
   pub cost : Price
 
+-- the move over a link that has number n
 abbrev pub move-over : Kind → List Price → ℕ → Option Link → Option Move
 move-over k gs n None = None
 move-over k gs n (Some l) = Some (record { number = n; from = l .from; cost = through k gs (Some l) })
@@ -28,6 +29,7 @@ abbrev pub nearer : Move → Move → Bool
 nearer a b = in-turn (less (a .cost) (b .cost)) (less (b .cost) (a .cost))
     (in-turn (ltb (a .from) (b .from)) (ltb (b .from) (a .from)) (ltb (a .number) (b .number)))
 
+-- the nearer of two moves, if there are any
 abbrev pub nearest : Option Move → Option Move → Option Move
 nearest None b = b
 nearest (Some a) None = Some a
@@ -43,6 +45,7 @@ best-move k gs x n (l ∷ ls) =
 abbrev pub move : Meaning → List Price → ℕ → Option Move
 move m gs x = best-move (m .kind) gs x 0 (m .links)
 
+-- a place before the others
 abbrev pub onto : ℕ → Option (List ℕ) → Option (List ℕ)
 onto x None = None
 onto x (Some ps) = Some (x ∷ ps)
@@ -63,6 +66,7 @@ pub data Traced : Type 0 where
   none : Traced
   misses : Traced
 
+-- turned round, so that the start comes first
 abbrev pub traced : Option (List ℕ) → Traced
 traced None = misses
 traced (Some ps) = shows (reverse ps)
@@ -90,4 +94,5 @@ pub record True-move (m : Meaning) (x y : ℕ) : Type 0 where
 -- the places from x back to the start by such moves, x first
 pub data True-trace (m : Meaning) : ℕ → List ℕ → Type 0 where
   arrived : True-trace m (m .start) (m .start ∷ [])
-  moved : {y : ℕ} {ps : List ℕ} (x : ℕ) → (x ≡ m .start → ⊥) → True-move m x y → True-trace m y ps → True-trace m x (x ∷ ps)
+  moved : {y : ℕ} {ps : List ℕ} (x : ℕ) → (x ≡ m .start → ⊥) →
+      True-move m x y → True-trace m y ps → True-trace m x (x ∷ ps)

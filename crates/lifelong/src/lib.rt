@@ -49,7 +49,8 @@ pub fn repairs_end_settled() -> u8
     0
 }
 
-// A place that is lowered gets its true distance. When settled the goal has its own, closed exactly when no route stands.
+// A place that is lowered gets its true distance. When settled the goal has its own, closed exactly when no route
+// stands.
 pub fn standings_come_true() -> u8
     ensures lowered { λ _. ⌜ Lowered-true ⌝ }
     ensures settled { λ _. ⌜ Settled-true ⌝ }
@@ -74,7 +75,8 @@ pub fn the_trace_is_the_cheapest_route() -> u8
     0
 }
 
-// The bounds hold when all standings are closed, whatever a link's price, and after every step. Under them no sum reaches the ceiling.
+// The bounds hold when all standings are closed, whatever a link's price, and after every step. Under them no sum
+// reaches the ceiling.
 pub fn sums_stay_below_the_ceiling() -> u8
     ensures closed { λ _. ⌜ Closed-within ⌝ }
     ensures priced { λ _. ⌜ Priced-within ⌝ }
