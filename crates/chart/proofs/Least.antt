@@ -5,7 +5,7 @@ use mathlib.Core.Bool.{Bool, true, false, cond}
 use mathlib.Core.List.{List, [], _∷_}
 use Prim.Native.Nat.{ℕ, zero, suc}
 use native.Mathlib.Omega.{arith}
-use lib.ListN.{getD}
+use lib.ListN.{getD, set}
 use Rattle.std.proofs.shelf.Tests.{both-ways, cases-bool, cond-false, cond-true}
 use Rattle.rows.specs.Rows.{Price, closed, is-open, less, smaller}
 use Rattle.rows.proofs.Order.{less-chain, less-one-way, less-self}
@@ -81,9 +81,19 @@ module _ (test : Option Link → Bool) (cost : Option Link → Price) where
         (cases-bool (less (cost l) (least-over test cost ls))))
       (λ (f : test l ≡ false). subst P (sym (least-skip l ls f)) (least-all P c ls (λ n. h (suc n)))) (cases-bool (test l))
 
--- equal costs have an equal least
+-- equal costs of the links that pass have an equal least
 pub least-same : (test : Option Link → Bool) (cost other : Option Link → Price) (ls : List (Option Link)) →
-    ((n : ℕ) → cost (getD ls n None) ≡ other (getD ls n None)) → least-over test cost ls ≡ least-over test other ls
+    ((n : ℕ) → test (getD ls n None) ≡ true → cost (getD ls n None) ≡ other (getD ls n None)) → least-over test cost ls ≡ least-over test other ls
+least-same test cost other [] h = least-none test cost ∙ sym (least-none test other)
+least-same test cost other (l ∷ ls) h =
+    let r : least-over test cost ls ≡ least-over test other ls = least-same test cost other ls (λ n. h (suc n)) in ⊎-elim
+    (λ (t : test l ≡ true). least-take test cost l ls t ∙ (λ i. smaller (h 0 t i) (r i)) ∙ sym (least-take test other l ls t))
+    (λ (f : test l ≡ false). least-skip test cost l ls f ∙ r ∙ sym (least-skip test other l ls f)) (cases-bool (test l))
+
+-- a link that does not pass may become another that does not
+pub least-set : (test : Option Link → Bool) (cost : Option Link → Price) (ls : List (Option Link)) (n : ℕ) (new : Option Link) →
+    test (getD ls n None) ≡ false → test new ≡ false → least-over test cost (set ls n new) ≡ least-over test cost ls
 unfolding least-over
-least-same test cost other [] h = refl
-least-same test cost other (l ∷ ls) h = let r = least-same test cost other ls (λ n. h (suc n)) in λ i. cond (test l) (smaller (h 0 i) (r i)) (r i)
+least-set test cost [] n new e d = refl
+least-set test cost (l ∷ ls) zero new e d = least-skip test cost new ls d ∙ sym (least-skip test cost l ls e)
+least-set test cost (l ∷ ls) (suc n) new e d = ap (λ z. cond (test l) (smaller (cost l) z) z) (least-set test cost ls n new e d)

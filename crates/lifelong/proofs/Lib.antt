@@ -13,3 +13,4 @@ pub mod Limits
 pub mod Distances
 pub mod Witness
 pub mod Unread
+pub mod Updates

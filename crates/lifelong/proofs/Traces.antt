@@ -25,7 +25,7 @@ use Rattle.lifelong.specs.Standings.{lookahead, standing-at}
 use Rattle.lifelong.specs.Step.{Even, settled}
 use Rattle.lifelong.specs.Bounds.{Bounds}
 use Rattle.lifelong.specs.Shown.{Cheapest, One-trace, One-true-trace}
-use Rattle.lifelong.specs.Trace.{Move, True-move, True-trace, arrived, move, moved, moving, none, onto, shows, trace, traced, walk}
+use Rattle.lifelong.specs.Trace.{Move, True-move, True-trace, arrived, move, moved, moving, misses, none, onto, shows, trace, traced, walk}
 use Rattle.lifelong.proofs.Lookaheads.{By, look-below, look-proper, stand-proper}
 use Rattle.lifelong.proofs.Moves.{Nearest, move-of, no-move, not-nearer, the-move}
 use Rattle.lifelong.proofs.Ranks.{Before, Pair, Upto, ahead, ahead-below, ahead-by, before-upto, cost, limit, number, over-link, pair, pair-at, plus, stand}
@@ -242,6 +242,13 @@ module _ (m : Meaning) (law : Lawful m) (gs : List Price) (b : Bounds m gs) (t :
   none-is-closed e = ⊎-elim
       (λ (o : is-open (standing-at gs (m .goal)) ≡ true). let z : _≡_ {A = ℕ} 0 1 = cc (shows-cheapest o .1 .shown) in absurd (omega arith))
       (λ (o : is-open (standing-at gs (m .goal)) ≡ false). not-open (standing-at gs (m .goal)) o) (cases-bool (is-open (standing-at gs (m .goal))))
+
+  pub never-misses : trace m gs ≡ misses → ⊥
+  never-misses e = ⊎-elim
+      (λ (o : is-open (standing-at gs (m .goal)) ≡ true). let z : _≡_ {A = ℕ} 0 1 = cc (shows-cheapest o .1 .shown) in omega arith)
+      (λ (o : is-open (standing-at gs (m .goal)) ≡ false).
+        let n : trace m gs ≡ none = closed-shows-none (not-open (standing-at gs (m .goal)) o) in let z : _≡_ {A = ℕ} 0 1 = cc in omega arith)
+      (cases-bool (is-open (standing-at gs (m .goal))))
 
   pub none-no-route : (trace m gs ≡ none → No-route m) × (No-route m → trace m gs ≡ none)
   none-no-route = ((λ e. closed-no-route (none-is-closed e)), (λ h. closed-shows-none (no-route-closed h)))

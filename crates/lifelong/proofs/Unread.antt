@@ -34,7 +34,7 @@ module _ (m : Meaning) (law : Lawful m) where
     look-same : (x : ℕ) → lookahead m gs x ≡ lookahead m hs x
     unfolding lookahead
     look-same x = ap (cond (eqb x (m .start)) (zero-of (m .kind)))
-        (least-same (leads-into x) (through (m .kind) gs) (through (m .kind) hs) (m .links) (λ n. through-same gs hs a n (link-at m n) refl))
+        (least-same (leads-into x) (through (m .kind) gs) (through (m .kind) hs) (m .links) (λ n _. through-same gs hs a n (link-at m n) refl))
 
     even-same : (x : ℕ) → x < places m → Even m gs x → Even m hs x
     even-same x l e = sym (a x l) ∙ e ∙ look-same x

@@ -3,6 +3,7 @@ pub mod Step
 pub mod Run
 pub mod Trace
 pub mod Bounds
+pub mod Updates
 pub mod Theorems
 pub mod Shown
 pub mod Charts

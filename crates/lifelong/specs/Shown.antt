@@ -10,7 +10,7 @@ use Rattle.chart.specs.Meaning.{Meaning, places}
 use Rattle.chart.specs.Routes.{No-route, Route, True-distance, places-price}
 use Rattle.lifelong.specs.Standings.{standing-at}
 use Rattle.lifelong.specs.Step.{settled}
-use Rattle.lifelong.specs.Trace.{True-trace, none, shows, trace}
+use Rattle.lifelong.specs.Trace.{True-trace, misses, none, shows, trace}
 use Rattle.lifelong.specs.Bounds.{Always, Bounds}
 
 -- these places are the cheapest route, and the trace shows them
@@ -36,6 +36,10 @@ Shows-cheapest = Always (λ m gs. settled m gs ≡ true →
 abbrev pub None-without-route : Type 0
 None-without-route = Always (λ m gs. settled m gs ≡ true →
     (trace m gs ≡ none → No-route m) × (No-route m → trace m gs ≡ none))
+
+-- and never misses the start
+abbrev pub Never-misses : Type 0
+Never-misses = Always (λ m gs. settled m gs ≡ true → trace m gs ≡ misses → ⊥)
 
 -- such moves lead back from a place in one way only: the route is a function of the chart alone
 abbrev pub One-true-trace : Type 0

@@ -3,8 +3,9 @@
 ghost use Rattle.lifelong.specs.Bounds.{Closed-within, Keys-open, Priced-within, Run-within, Step-within, Sums-open};
 ghost use Rattle.lifelong.specs.Examples.{All-hold, Premises-met, Refused, table};
 ghost use Rattle.lifelong.specs.Run.{Runs-join};
-ghost use Rattle.lifelong.specs.Shown.{None-without-route, One-trace, One-true-trace, Shows-cheapest};
+ghost use Rattle.lifelong.specs.Shown.{Never-misses, None-without-route, One-trace, One-true-trace, Shows-cheapest};
 ghost use Rattle.lifelong.specs.Theorems.{At-most-twice, Closed-without-chain, Closed-without-route, Definitions-agree, Ends-settled, Few-steps, Later-keys, Lowered-true, Never-twice, Next-key, One-distance, Past-unread, Settled-true, Some-distance, True-kept, Zero-at-start};
+ghost use Rattle.lifelong.specs.Updates.{Closed-ahead, Price-reaches, Standing-reaches};
 
 // What is computed is what the relations say, of any chart and any standings.
 pub fn the_step_is_as_the_relations_say() -> u8
@@ -26,6 +27,16 @@ pub fn every_place_has_one_true_distance() -> u8
     ensures one { λ _. ⌜ One-distance ⌝ }
     ensures start { λ _. ⌜ Zero-at-start ⌝ }
     ensures closed { λ _. ⌜ Closed-without-chain ⌝ }
+{
+    0
+}
+
+// A new standing reaches only the lookaheads of places to which a link leads from there, a new price only that of the
+// link's to place; over closed standings every lookahead but the start's is closed.
+pub fn changes_reach_the_next_places_only() -> u8
+    ensures standing { λ _. ⌜ Standing-reaches ⌝ }
+    ensures price { λ _. ⌜ Price-reaches ⌝ }
+    ensures closed { λ _. ⌜ Closed-ahead ⌝ }
 {
     0
 }
@@ -70,6 +81,7 @@ pub fn true_standings_are_kept() -> u8
 pub fn the_trace_is_the_cheapest_route() -> u8
     ensures shows { λ _. ⌜ Shows-cheapest ⌝ }
     ensures none { λ _. ⌜ None-without-route ⌝ }
+    ensures never_misses { λ _. ⌜ Never-misses ⌝ }
     ensures one { λ _. ⌜ One-true-trace ⌝ }
 {
     0
