@@ -2,3 +2,5 @@ pub mod Order
 pub mod Smaller
 pub mod Sums
 pub mod Keys
+pub mod Lexicographic
+pub mod Numbers

@@ -1,0 +1,16 @@
+pub mod Agreement
+pub mod Runs
+pub mod Lookaheads
+pub mod Ranks
+pub mod Reach
+pub mod Steps
+pub mod Rising
+pub mod Counts
+pub mod Repairs
+pub mod Moves
+pub mod Traces
+pub mod Limits
+pub mod Distances
+pub mod Witness
+pub mod Unread
+pub mod Updates

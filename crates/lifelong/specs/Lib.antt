@@ -1,0 +1,10 @@
+pub mod Standings
+pub mod Step
+pub mod Run
+pub mod Trace
+pub mod Bounds
+pub mod Updates
+pub mod Theorems
+pub mod Shown
+pub mod Charts
+pub mod Examples
