@@ -52,10 +52,10 @@ module _ (m : Meaning) (law : Lawful m) where
   counted : {x : ℕ} {ps : List ℕ} {p : Price} → Chain m x ps p → Counted ps p
   counted begin = record { links = 0; counts = refl; within = within-zero m law 0 }
   counted (more {ps = ps} {p = p} n l e o c f) = let t = counted c in record {
-      links = suc (t .links);
-      counts = ap suc (t .counts);
-      within = within-sum (m .kind) (t .links) p (l .price) (t .within) (price-within m law n l e)
-    }
+    links = suc (t .links);
+    counts = ap suc (t .counts);
+    within = within-sum (m .kind) (t .links) p (l .price) (t .within) (price-within m law n l e);
+  }
 
   -- so it has at most 4,095 links
   pub chain-within : {x : ℕ} {ps : List ℕ} {p : Price} → Chain m x ps p → Within (m .kind) 4095 p
@@ -76,10 +76,10 @@ module _ (m : Meaning) (law : Lawful m) where
   pub distance-by : (x : ℕ) (p : Price) → ((ps : List ℕ) (q : Price) → Chain m x ps q → less q p ≡ false) → ((ps : List ℕ) × Chain m x ps p) ⊎ (p ≡ closed) →
       True-distance m x p
   distance-by x p least met = record {
-      least = least;
-      met = ⊎-elim (λ (w : (ps : List ℕ) × Chain m x ps p). inl w)
-        (λ (e : p ≡ closed). inr (e, λ ps q c. both-ways (less q closed) (rw e at (least ps q c)) (open-below q (chain-open c)))) met
-    }
+    least = least;
+    met = ⊎-elim (λ (w : (ps : List ℕ) × Chain m x ps p). inl w)
+        (λ (e : p ≡ closed). inr (e, λ ps q c. both-ways (less q closed) (rw e at (least ps q c)) (open-below q (chain-open c)))) met;
+  }
 
   pub distance-within : (x : ℕ) (p : Price) → True-distance m x p → Within (m .kind) 4095 p
   distance-within x p d = ⊎-elim (λ (w : (ps : List ℕ) × Chain m x ps p). chain-within (w .1))

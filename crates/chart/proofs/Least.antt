@@ -40,13 +40,13 @@ module _ (test : Option Link → Bool) (cost : Option Link → Price) where
   least-below [] n l e j = let z : _≡_ {A = ℕ} 0 1 = cc in absurd (omega arith)
   least-below (k ∷ ls) zero l e j =
       let q : least-over test cost (k ∷ ls) ≡ smaller (cost (Some l)) (least-over test cost ls) =
-          least-take k ls (ap test e ∙ j) ∙ ap (λ z. smaller (cost z) (least-over test cost ls)) e in
+      least-take k ls (ap test e ∙ j) ∙ ap (λ z. smaller (cost z) (least-over test cost ls)) e in
       rw q (smaller-below (cost (Some l)) (least-over test cost ls) .0)
   least-below (k ∷ ls) (suc n) l e j =
       let ih : less (cost (Some l)) (least-over test cost ls) ≡ false = least-below ls n l e j in ⊎-elim
       (λ (t : test k ≡ true). rw (least-take k ls t)
-          (less-chain (smaller (cost k) (least-over test cost ls)) (least-over test cost ls) (cost (Some l))
-          (smaller-below (cost k) (least-over test cost ls) .1) ih))
+      (less-chain (smaller (cost k) (least-over test cost ls)) (least-over test cost ls) (cost (Some l))
+      (smaller-below (cost k) (least-over test cost ls) .1) ih))
       (λ (f : test k ≡ false). rw (least-skip k ls f) ih) (cases-bool (test k))
 
   -- a link that passes, and has the cost v
@@ -63,11 +63,11 @@ module _ (test : Option Link → Bool) (cost : Option Link → Price) where
   least-met [] o = absurd (both-ways (is-open (least-over test cost [])) (ap is-open least-none) o)
   least-met (k ∷ ls) o = ⊎-elim
       (λ (t : test k ≡ true). ⊎-elim
-        (λ (s : less (cost k) (least-over test cost ls) ≡ true).
-          record { number = 0; passes = t; gives = least-take k ls t ∙ smaller-left (cost k) (least-over test cost ls) s })
-        (λ (s : less (cost k) (least-over test cost ls) ≡ false).
-          let q : least-over test cost (k ∷ ls) ≡ least-over test cost ls = least-take k ls t ∙ smaller-right (cost k) (least-over test cost ls) s in
-          rw q (later (least-met ls (rw q at o)))) (cases-bool (less (cost k) (least-over test cost ls))))
+      (λ (s : less (cost k) (least-over test cost ls) ≡ true).
+      record { number = 0; passes = t; gives = least-take k ls t ∙ smaller-left (cost k) (least-over test cost ls) s })
+      (λ (s : less (cost k) (least-over test cost ls) ≡ false).
+      let q : least-over test cost (k ∷ ls) ≡ least-over test cost ls = least-take k ls t ∙ smaller-right (cost k) (least-over test cost ls) s in
+      rw q (later (least-met ls (rw q at o)))) (cases-bool (less (cost k) (least-over test cost ls))))
       (λ (f : test k ≡ false). rw (least-skip k ls f) (later (least-met ls (rw (least-skip k ls f) at o)))) (cases-bool (test k))
 
   -- what holds of closed and of each cost holds of the least
@@ -75,10 +75,10 @@ module _ (test : Option Link → Bool) (cost : Option Link → Price) where
   least-all P c [] h = subst P (sym least-none) c
   least-all P c (l ∷ ls) h = ⊎-elim
       (λ (t : test l ≡ true). ⊎-elim
-        (λ (s : less (cost l) (least-over test cost ls) ≡ true). subst P (sym (least-take l ls t ∙ smaller-left (cost l) (least-over test cost ls) s)) (h 0))
-        (λ (s : less (cost l) (least-over test cost ls) ≡ false). subst P (sym (least-take l ls t ∙ smaller-right (cost l) (least-over test cost ls) s))
-            (least-all P c ls (λ n. h (suc n))))
-        (cases-bool (less (cost l) (least-over test cost ls))))
+      (λ (s : less (cost l) (least-over test cost ls) ≡ true). subst P (sym (least-take l ls t ∙ smaller-left (cost l) (least-over test cost ls) s)) (h 0))
+      (λ (s : less (cost l) (least-over test cost ls) ≡ false). subst P (sym (least-take l ls t ∙ smaller-right (cost l) (least-over test cost ls) s))
+      (least-all P c ls (λ n. h (suc n))))
+      (cases-bool (less (cost l) (least-over test cost ls))))
       (λ (f : test l ≡ false). subst P (sym (least-skip l ls f)) (least-all P c ls (λ n. h (suc n)))) (cases-bool (test l))
 
 -- equal costs of the links that pass have an equal least

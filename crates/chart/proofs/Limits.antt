@@ -127,7 +127,7 @@ module _ (m : Meaning) (law : Lawful m) where
   uncapped-by (open-at es) (open-at xs) closed r h j a b = absurd (both-ways false refl b)
   uncapped-by (open-at es) (open-at xs) (open-at ys) r h j a b =
       ap is-open (cond-true (all-below (m .kind .ceiling) (add-rows xs ys)) (open-at (add-rows xs ys)) closed
-        (room-below (m .kind .ceiling) (m .kind .largest) es (add-rows xs ys) r (each-sum 4095 (m .kind .largest) xs ys h j)))
+      (room-below (m .kind .ceiling) (m .kind .largest) es (add-rows xs ys) r (each-sum 4095 (m .kind .largest) xs ys h j)))
 
   -- a link more does not reach the ceiling
   pub uncapped-link : (p q : Price) → Within (m .kind) 4095 p → Within (m .kind) 1 q → Uncapped (m .kind) p q
@@ -138,7 +138,7 @@ module _ (m : Meaning) (law : Lawful m) where
   uncapped-with (open-at es) closed r h a b = absurd (both-ways false refl a)
   uncapped-with (open-at es) (open-at xs) r h a b =
       ap is-open (cond-true (all-below (m .kind .ceiling) (add-rows xs es)) (open-at (add-rows xs es)) closed
-          (room-sum (m .kind .ceiling) (m .kind .largest) es xs r h))
+      (room-sum (m .kind .ceiling) (m .kind .largest) es xs r h))
 
   -- nor does an estimate
   pub uncapped-estimate : (p : Price) (x : ℕ) → x < places m → Within (m .kind) 4096 p → Uncapped (m .kind) p (estimate-at m x)
@@ -177,9 +177,9 @@ module _ (m : Meaning) (law : Lawful m) where
     pub floor-rank : (0 < rank (m .kind) (l .floor)) × (rank (m .kind) (l .floor) ≤ rank (m .kind) (l .price))
     floor-rank =
         let z : rank (m .kind) (zero-of (m .kind)) < rank (m .kind) (l .floor) =
-            less-rank (m .kind) (zero-of (m .kind)) (l .floor) zero-proper floor-proper (link-law .floor-above) in
+        less-rank (m .kind) (zero-of (m .kind)) (l .floor) zero-proper floor-proper (link-law .floor-above) in
         let p : rank (m .kind) (l .floor) ≤ rank (m .kind) (l .price) =
-            not-less-rank (m .kind) (l .price) (l .floor) price-proper floor-proper (link-law .price-above) in
+        not-less-rank (m .kind) (l .price) (l .floor) price-proper floor-proper (link-law .price-above) in
         (omega (arith, rank-zero (m .kind)), p)
 
     pub price-rank : 0 < rank (m .kind) (l .price)

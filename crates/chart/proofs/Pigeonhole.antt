@@ -27,8 +27,8 @@ left n [] y i = absurd i
 left n (x ∷ xs) y i = ⊎-elim
     (λ (e : eqb x n ≡ true). let t = left n xs y (rw (hit n x xs e) at i) in (inr (t .0), t .1))
     (λ (e : eqb x n ≡ false). ⊎-elim
-      (λ (q : y ≡ x). (inl q, λ z. eqb-false x n e (sym q ∙ z)))
-      (λ (j : Among y (without n xs)). let t = left n xs y j in (inr (t .0), t .1)) (rw (miss n x xs e) at i))
+    (λ (q : y ≡ x). (inl q, λ z. eqb-false x n e (sym q ∙ z)))
+    (λ (j : Among y (without n xs)). let t = left n xs y j in (inr (t .0), t .1)) (rw (miss n x xs e) at i))
     (cases-bool (eqb x n))
 
 untouched : (n : ℕ) (xs : List ℕ) → (Among n xs → ⊥) → without n xs ≡ xs
@@ -54,7 +54,7 @@ pigeonhole zero [] d b = omega arith
 pigeonhole zero (x ∷ xs) d b = absurd (omega (arith, b x (inl refl)))
 pigeonhole (suc n) xs d b =
     let ih : length (without n xs) ≤ n = pigeonhole n (without n xs) (still-distinct n xs d)
-        (λ y i. let t = left n xs y i in let q = b y (t .0) in let r = t .1 in omega arith) in
+    (λ y i. let t = left n xs y i in let q = b y (t .0) in let r = t .1 in omega arith) in
     omega (arith, one-fewer n xs d)
 
 pub among-map : {A B : Type 0} (f : A → B) (xs : List A) (y : B) → Among y (map f xs) → (x : A) × (Among x xs × (y ≡ f x))
@@ -76,5 +76,5 @@ pub pigeonhole-by : {A : Type 0} (f : A → ℕ) → ((x y : A) → f x ≡ f y 
     length xs ≤ n
 pigeonhole-by f one n xs d b =
     let h : length (map f xs) ≤ n =
-        pigeonhole n (map f xs) (distinct-map f one xs d) (λ y i. let t = among-map f xs y i in subst (λ z. z < n) (sym (t .1 .1)) (b (t .0) (t .1 .0))) in
+    pigeonhole n (map f xs) (distinct-map f one xs d) (λ y i. let t = among-map f xs y i in subst (λ z. z < n) (sym (t .1 .1)) (b (t .0) (t .1 .0))) in
     omega (arith, length-map xs f)

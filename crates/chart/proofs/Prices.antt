@@ -60,7 +60,7 @@ module _ (m : Meaning) (law : Lawful m) where
   along-more x (y ∷ xs) a b =
       ap (sum (m .kind) (cheapest m x y)) (along-more y xs a b)
       ∙ sym (sum-assoc (m .kind) (cheapest m x y) (price-along m y (xs ++ a ∷ [])) (cheapest m a b) (between-proper x y) (along-proper y (xs ++ a ∷ []))
-          (between-proper a b))
+      (between-proper a b))
 
   price-more : (xs : List ℕ) (a b : ℕ) → places-price m (xs ++ a ∷ b ∷ []) ≡ sum (m .kind) (places-price m (xs ++ a ∷ [])) (cheapest m a b)
   unfolding price-along
@@ -91,16 +91,16 @@ module _ (m : Meaning) (law : Lawful m) where
       let d = cheapest m a b in
       let rest = chain-head m c in
       let is : places-price m (reverse (b ∷ ps)) ≡ sum (m .kind) q d =
-          subst (λ (xs : List ℕ). places-price m (reverse (b ∷ xs)) ≡ sum (m .kind) (places-price m (reverse xs)) d) (sym (rest .1))
-              (back-more (rest .0) a b) in
+      subst (λ (xs : List ℕ). places-price m (reverse (b ∷ xs)) ≡ sum (m .kind) (places-price m (reverse xs)) d) (sym (rest .1))
+      (back-more (rest .0) a b) in
       let lo : rank (m .kind) d ≤ rank (m .kind) (l .price) = not-less-rank (m .kind) (l .price) d (price-proper m law n l e) (between-proper a b)
-          (least-below (joins a b) link-price (m .links) n l e (and-from (eqb a a) (eqb b b) (eq-eqb a a refl) (eq-eqb b b refl))) in
+      (least-below (joins a b) link-price (m .links) n l e (and-from (eqb a a) (eqb b b) (eq-eqb a a refl) (eq-eqb b b refl))) in
       let top-above = rank-open (m .kind) (l .price) (price-proper m law n l e) o in
       let j : Joining m a b d = cheapest-met m a b (below-top-is-open (m .kind) d (omega arith)) in
       let k = j .link in
       let new : Chain m (k .to) (k .to ∷ ps) (sum (m .kind) q (k .price)) =
-          more (j .number) k (j .named) (ap is-open (j .price-is) ∙ below-top-is-open (m .kind) d (omega arith))
-          (subst (λ (z : ℕ). Chain m z ps q) (sym (j .from-is)) (h .chain)) (λ i. f (subst (λ (z : ℕ). Among z ps) (j .to-is) i)) in
+      more (j .number) k (j .named) (ap is-open (j .price-is) ∙ below-top-is-open (m .kind) d (omega arith))
+      (subst (λ (z : ℕ). Chain m z ps q) (sym (j .from-is)) (h .chain)) (λ i. f (subst (λ (z : ℕ). Among z ps) (j .to-is) i)) in
       let moved : Chain m b (b ∷ ps) (sum (m .kind) q (k .price)) = subst (λ (z : ℕ). Chain m z (z ∷ ps) (sum (m .kind) q (k .price))) (j .to-is) new in
       let same : sum (m .kind) q (k .price) ≡ places-price m (reverse (b ∷ ps)) = ap (sum (m .kind) q) (j .price-is) ∙ sym is in
       let s1 = link-sum m law (j .number) k (j .named) q (chain-within m law (h .chain)) in

@@ -12,7 +12,8 @@ use Rattle.std.proofs.shelf.Tests.{and-parts, both-ways, cases-bool, cases-eq, 
 use Rattle.rows.specs.Rows.{Price, closed, less}
 use Rattle.rows.specs.Keys.{before, key-less}
 use Rattle.rows.proofs.Order.{less-one-way, less-self, less-total}
-use Rattle.rows.proofs.Keys.{before-chain, before-key, before-one-way, before-total, in-turn-no, in-turn-tie, in-turn-yes, key-chain}
+use Rattle.rows.proofs.Keys.{before-chain, before-key, before-one-way, before-total, key-chain}
+use Rattle.rows.proofs.Lexicographic.{in-turn-no, in-turn-tie, in-turn-yes}
 use Rattle.chart.specs.Meaning.{Meaning, places}
 use Rattle.std.specs.declared.option.Option.{Option}
 use Rattle.std.specs.declared.option.Option.the-variants.{Some, None}
@@ -57,25 +58,41 @@ module _ (m : Meaning) (gs : List Price) where
 
   widen : (n : ℕ) (o : Option ℕ) → uneven m gs n ≡ false → Best n o → Best (suc n) o
   widen n None f h = λ q l. ⊎-elim (λ e. ap (uneven m gs) e ∙ f) (λ ne. h q (omega arith)) (cases-eq q n)
-  widen n (Some p) f h = let l = h .0 in (omega arith, h .1, λ q l u. ⊎-elim
-      (λ e. absurd (both-ways (uneven m gs q) (ap (uneven m gs) e ∙ f) u)) (λ ne. h .2 q (omega arith) u) (cases-eq q n))
+  widen n (Some p) f h = let l = h .0 in (
+    omega arith,
+    h .1,
+    λ q l u. ⊎-elim
+        (λ e. absurd (both-ways (uneven m gs q) (ap (uneven m gs) e ∙ f) u)) (λ ne. h .2 q (omega arith) u) (cases-eq q n),
+  )
 
   chosen : (n b : ℕ) (t : Bool) → key-less (key m gs n) (key m gs b) ≡ t → uneven m gs n ≡ true → Best n (Some b) → Best (suc n) (cond t (Some n) (Some b))
-  chosen n b true e u h = (omega arith, u, λ q l w. ⊎-elim
-      (λ d. at-last n n q d refl)
-      (λ ne. before-chain (key m gs n) (key m gs b) (key m gs q) n b q
+  chosen n b true e u h = (
+    omega arith,
+    u,
+    λ q l w. ⊎-elim
+        (λ d. at-last n n q d refl)
+        (λ ne. before-chain (key m gs n) (key m gs b) (key m gs q) n b q
         (before-one-way (key m gs n) (key m gs b) n b (in-turn-yes (key-less (key m gs n) (key m gs b)) (key-less (key m gs b) (key m gs n)) (ltb n b) e))
-        (h .2 q (omega arith) w)) (cases-eq q n))
-  chosen n b false e u h = let lb = h .0 in (omega arith, h .1, λ q l w. ⊎-elim
-      (λ (d : q ≡ n). (λ i. before (key m gs (d i)) (d i) (key m gs b) b) ∙ ⊎-elim
+        (h .2 q (omega arith) w)) (cases-eq q n),
+  )
+  chosen n b false e u h = let lb = h .0 in (
+    omega arith,
+    h .1,
+    λ q l w. ⊎-elim
+        (λ (d : q ≡ n). (λ i. before (key m gs (d i)) (d i) (key m gs b) b) ∙ ⊎-elim
         (λ t. in-turn-no (key-less (key m gs n) (key m gs b)) (key-less (key m gs b) (key m gs n)) (ltb n b) e t)
         (λ f. in-turn-tie (key-less (key m gs n) (key m gs b)) (key-less (key m gs b) (key m gs n)) (ltb n b) e f ∙ le-ltb n b (omega arith))
         (cases-bool (key-less (key m gs b) (key m gs n))))
-      (λ ne. h .2 q (omega arith) w) (cases-eq q n))
+        (λ ne. h .2 q (omega arith) w) (cases-eq q n),
+  )
 
   joined : (n : ℕ) (o : Option ℕ) → uneven m gs n ≡ true → Best n o → Best (suc n) (better m gs o n)
-  joined n None u h = (omega arith, u, λ q l w. ⊎-elim
-      (λ d. at-last n n q d refl) (λ ne. absurd (both-ways (uneven m gs q) (h q (omega arith)) w)) (cases-eq q n))
+  joined n None u h = (
+    omega arith,
+    u,
+    λ q l w. ⊎-elim
+        (λ d. at-last n n q d refl) (λ ne. absurd (both-ways (uneven m gs q) (h q (omega arith)) w)) (cases-eq q n),
+  )
   joined n (Some b) u h = chosen n b (key-less (key m gs n) (key m gs b)) refl u h
 
   best : (n : ℕ) → Best n (next-below m gs n)
@@ -83,9 +100,9 @@ module _ (m : Meaning) (gs : List Price) where
   best zero = λ q l. absurd (omega arith)
   best (suc n) = ⊎-elim
       (λ u. subst (Best (suc n)) (sym (cond-true (uneven m gs n) (better m gs (next-below m gs n) n) (next-below m gs n) u))
-          (joined n (next-below m gs n) u (best n)))
+      (joined n (next-below m gs n) u (best n)))
       (λ f. subst (Best (suc n)) (sym (cond-false (uneven m gs n) (better m gs (next-below m gs n) n) (next-below m gs n) f))
-          (widen n (next-below m gs n) f (best n)))
+      (widen n (next-below m gs n) f (best n)))
       (cases-bool (uneven m gs n))
 
   only : (p : ℕ) (o : Option ℕ) → Best (places m) o → Taken m gs p → o ≡ Some p
@@ -127,7 +144,7 @@ module _ (m : Meaning) (gs : List Price) where
       let t = and-parts (not (uneven m gs (m .goal))) (not (below-goal m gs (next m gs))) s in
       record {
         even = even-is (m .goal) (not-true (uneven m gs (m .goal)) (t .0));
-        first = λ q l u. front (next m gs) (best (places m)) (not-true (below-goal m gs (next m gs)) (t .1)) q l (is-uneven q u)
+        first = λ q l u. front (next m gs) (best (places m)) (not-true (below-goal m gs (next m gs)) (t .1)) q l (is-uneven q u);
       }
 
   pub is-settled : Settled m gs → settled m gs ≡ true
@@ -168,31 +185,38 @@ module _ (m : Meaning) (gs : List Price) where
 
   pub step-stepped : (p : ℕ) → places m ≤ length gs → next m gs ≡ Some p → Stepped m gs p (change-at m gs p) (step m gs p)
   step-stepped p long e = let t = next-taken p e in let l = t .inside in record {
-      taken = t;
-      here = subst (Changed (change-at m gs p) (standing-at gs p) (lookahead m gs p)) (sym (step-here p (omega arith)))
-          (changes p (less (lookahead m gs p) (standing-at gs p)) refl (t .uneven));
-      elsewhere = λ q n. step-elsewhere p q n;
-      long = step-long p
-    }
+    taken = t;
+    here = subst (Changed (change-at m gs p) (standing-at gs p) (lookahead m gs p)) (sym (step-here p (omega arith)))
+        (changes p (less (lookahead m gs p) (standing-at gs p)) refl (t .uneven));
+    elsewhere = λ q n. step-elsewhere p q n;
+    long = step-long p;
+  }
 
   one-change : (p : ℕ) (c : Change) (v : Price) → Changed c (standing-at gs p) (lookahead m gs p) v →
       (c ≡ change-at m gs p) × (v ≡ changed (standing-at gs p) (lookahead m gs p))
-  one-change p lowered v h =
-      (sym (cond-true (less (lookahead m gs p) (standing-at gs p)) lowered raised (h .0)), h .1 ∙ sym
-          (cond-true (less (lookahead m gs p) (standing-at gs p)) (lookahead m gs p) closed (h .0)))
+  one-change p lowered v h = (
+    sym (cond-true (less (lookahead m gs p) (standing-at gs p)) lowered raised (h .0)),
+    h .1 ∙ sym
+        (cond-true (less (lookahead m gs p) (standing-at gs p)) (lookahead m gs p) closed (h .0)),
+  )
   one-change p raised v h =
-      let f = less-one-way (standing-at gs p) (lookahead m gs p) (h .0) in
-      (sym (cond-false (less (lookahead m gs p) (standing-at gs p)) lowered raised f), h .1 ∙ sym
-          (cond-false (less (lookahead m gs p) (standing-at gs p)) (lookahead m gs p) closed f))
+      let f = less-one-way (standing-at gs p) (lookahead m gs p) (h .0) in (
+        sym (cond-false (less (lookahead m gs p) (standing-at gs p)) lowered raised f),
+        h .1 ∙ sym
+            (cond-false (less (lookahead m gs p) (standing-at gs p)) (lookahead m gs p) closed f),
+      )
 
   pub stepped-step : (p : ℕ) (c : Change) (hs : List Price) → places m ≤ length gs → Stepped m gs p c hs →
       (next m gs ≡ Some p) × (c ≡ change-at m gs p) × (hs ≡ step m gs p)
   stepped-step p c hs long s =
       let l = s .taken .inside in
-      let t = one-change p c (standing-at hs p) (s .here) in
-      (taken-next p (s .taken), t .0, ext-getD closed hs (step m gs p) (s .long ∙ sym (step-long p)) (λ q _. ⊎-elim
-        (λ (e : q ≡ p). rw e (t .1 ∙ sym (step-here p (omega arith))))
-        (λ (n : q ≡ p → ⊥). s .elsewhere q n ∙ sym (step-elsewhere p q n)) (cases-eq q p)))
+      let t = one-change p c (standing-at hs p) (s .here) in (
+        taken-next p (s .taken),
+        t .0,
+        ext-getD closed hs (step m gs p) (s .long ∙ sym (step-long p)) (λ q _. ⊎-elim
+            (λ (e : q ≡ p). rw e (t .1 ∙ sym (step-here p (omega arith))))
+            (λ (n : q ≡ p → ⊥). s .elsewhere q n ∙ sym (step-elsewhere p q n)) (cases-eq q p)),
+      )
 
   pub steps-agree : Steps-agree m gs
   steps-agree = record {

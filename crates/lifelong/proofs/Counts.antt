@@ -68,7 +68,7 @@ absent-none : (x : ℕ) (c : Change) (es : List Expansion) → Absent x c es →
 absent-none x c [] a b = refl
 absent-none x c (e ∷ es) a b = ⊎-elim
     (λ (p : e .place ≡ x). ⊎-elim (λ (q : e .change ≡ c). absurd (a (inl (sym (named x e p c q)))))
-        (λ (q : e .change ≡ other c). absurd (b (inl (sym (named x e p (other c) q))))) (one-or-other c (e .change)))
+    (λ (q : e .change ≡ other c). absurd (b (inl (sym (named x e p (other c) q))))) (one-or-other c (e .change)))
     (λ (n : e .place ≡ x → ⊥). passed x e es n ∙ absent-none x c es (λ i. a (inr i)) (λ i. b (inr i))) (cases-eq (e .place) x)
 
 gone : (x : ℕ) (e : Expansion) (es : List Expansion) (p : e .place ≡ x) (c : Change) → e .change ≡ c → (Among e es → ⊥) → Absent x c es
@@ -78,9 +78,9 @@ absent-once : (x : ℕ) (c : Change) (es : List Expansion) → Distinct es → A
 absent-once x c [] d a = omega arith
 absent-once x c (e ∷ es) d a = ⊎-elim
     (λ (p : e .place ≡ x). ⊎-elim
-      (λ (q : e .change ≡ c). absurd (a (inl (sym (named x e p c q)))))
-      (λ (q : e .change ≡ other c). omega (arith, met x e es p, absent-none x c es (λ i. a (inr i)) (gone x e es p (other c) q (d .0))))
-          (one-or-other c (e .change)))
+    (λ (q : e .change ≡ c). absurd (a (inl (sym (named x e p c q)))))
+    (λ (q : e .change ≡ other c). omega (arith, met x e es p, absent-none x c es (λ i. a (inr i)) (gone x e es p (other c) q (d .0))))
+    (one-or-other c (e .change)))
     (λ (n : e .place ≡ x → ⊥). omega (arith, passed x e es n, absent-once x c es (d .1) (λ i. a (inr i)))) (cases-eq (e .place) x)
 
 pub distinct-twice : (x : ℕ) (es : List Expansion) → Distinct es → often x es ≤ 2

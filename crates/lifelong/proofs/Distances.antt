@@ -57,17 +57,19 @@ module _ (m : Meaning) (law : Lawful m) (x : ℕ) (inside : x < places m) where
 
   toward-lawful : Lawful toward
   toward-lawful = record {
-      some = law .some; measured = law .measured;
-      places-few = omega (arith, same-places, law .places-few);
-      start-in = omega (arith, same-places, law .start-in);
-      goal-in = omega (arith, same-places, inside);
-      links-few = law .links-few; height-low = law .height-low;
-      links-law = λ n. subst (λ c. Link-law (m .kind) c (m .height) (link-at m n)) (sym same-places) (law .links-law n);
-      estimates-law = λ p l. subst (Estimate-law (m .kind)) (sym (zero-estimate p (omega (arith, same-places))))
-          (room (estimate-at m (m .start)) (law .estimates-law (m .start) (law .start-in)));
-      goal-zero = zero-estimate x inside;
-      consistent = λ n. level n (link-at m n) refl
-    }
+    some = law .some;
+    measured = law .measured;
+    places-few = omega (arith, same-places, law .places-few);
+    start-in = omega (arith, same-places, law .start-in);
+    goal-in = omega (arith, same-places, inside);
+    links-few = law .links-few;
+    height-low = law .height-low;
+    links-law = λ n. subst (λ c. Link-law (m .kind) c (m .height) (link-at m n)) (sym same-places) (law .links-law n);
+    estimates-law = λ p l. subst (Estimate-law (m .kind)) (sym (zero-estimate p (omega (arith, same-places))))
+        (room (estimate-at m (m .start)) (law .estimates-law (m .start) (law .start-in)));
+    goal-zero = zero-estimate x inside;
+    consistent = λ n. level n (link-at m n) refl;
+  }
 
   -- chains are the same
   to-chain : {y : ℕ} {ps : List ℕ} {p : Price} → Chain toward y ps p → Chain m y ps p
@@ -80,10 +82,10 @@ module _ (m : Meaning) (law : Lawful m) (x : ℕ) (inside : x < places m) where
 
   same-distance : (p : Price) → True-distance toward x p → True-distance m x p
   same-distance p d = record {
-      least = λ ps q c. d .least ps q (from-chain c);
-      met = ⊎-elim (λ (w : (ps : List ℕ) × Chain toward x ps p). inl (w .0, to-chain (w .1)))
-        (λ (w : (p ≡ closed) × ((ps : List ℕ) (q : Price) → Chain toward x ps q → ⊥)). inr (w .0, λ ps q c. w .1 ps q (from-chain c))) (d .met)
-    }
+    least = λ ps q c. d .least ps q (from-chain c);
+    met = ⊎-elim (λ (w : (ps : List ℕ) × Chain toward x ps p). inl (w .0, to-chain (w .1)))
+        (λ (w : (p ≡ closed) × ((ps : List ℕ) (q : Price) → Chain toward x ps q → ⊥)). inr (w .0, λ ps q c. w .1 ps q (from-chain c))) (d .met);
+  }
 
   fresh : List Price
   fresh = replicate (places toward) closed
@@ -95,10 +97,12 @@ module _ (m : Meaning) (law : Lawful m) (x : ℕ) (inside : x < places m) where
 
   found : (p : Price) × True-distance m x p
   found =
-      let left = repair toward fresh .left in
-      (standing-at left x, same-distance (standing-at left x)
-          (settled-distance toward toward-lawful left (run-bounds toward toward-lawful fresh fresh-bounds (2 * places toward))
-          (ends-settled toward toward-lawful fresh fresh-bounds)))
+      let left = repair toward fresh .left in (
+        standing-at left x,
+        same-distance (standing-at left x)
+            (settled-distance toward toward-lawful left (run-bounds toward toward-lawful fresh fresh-bounds (2 * places toward))
+            (ends-settled toward toward-lawful fresh fresh-bounds)),
+      )
 
 pub some-distance : Some-distance
 some-distance m law x = ⊎-elim

@@ -50,9 +50,9 @@ module _ (m : Meaning) (gs : List Price) where
   pub look-by : (x : ℕ) → is-open (lookahead m gs x) ≡ true → (x ≡ m .start) ⊎ By x
   look-by x o = ⊎-elim (λ e. inl e)
       (λ (u : x ≡ m .start → ⊥).
-        let q = look-other x u in
-        let t = least-met (leads-into x) (through (m .kind) gs) (m .links) (rw q at o) in
-        inr (by-link x (t .number) (link-at m (t .number)) refl (t .passes) (q ∙ t .gives))) (cases-eq x (m .start))
+      let q = look-other x u in
+      let t = least-met (leads-into x) (through (m .kind) gs) (m .links) (rw q at o) in
+      inr (by-link x (t .number) (link-at m (t .number)) refl (t .passes) (q ∙ t .gives))) (cases-eq x (m .start))
 
 module _ (m : Meaning) (law : Lawful m) (gs : List Price) (b : Bounds m gs) where
   through-within : (n : ℕ) (o : Option Link) → link-at m n ≡ o → Within (m .kind) 4096 (through (m .kind) gs o)
@@ -64,8 +64,8 @@ module _ (m : Meaning) (law : Lawful m) (gs : List Price) (b : Bounds m gs) wher
   look-within x = ⊎-elim
       (λ (e : x ≡ m .start). rw (e, look-start m gs) (within-zero m law 4096))
       (λ (u : x ≡ m .start → ⊥). rw (look-other m gs x u)
-        (least-all (leads-into x) (through (m .kind) gs) (Within (m .kind) 4096) tt (m .links) (λ n. through-within n (link-at m n) refl)))
-            (cases-eq x (m .start))
+      (least-all (leads-into x) (through (m .kind) gs) (Within (m .kind) 4096) tt (m .links) (λ n. through-within n (link-at m n) refl)))
+      (cases-eq x (m .start))
 
   pub look-proper : (x : ℕ) → Proper (m .kind) (lookahead m gs x)
   look-proper x = within-proper m law (lookahead m gs x) (look-within x)

@@ -10,8 +10,7 @@ use lib.ListN.{getD}
 use Rattle.std.proofs.shelf.Tests.{both-ways, cases-bool, cond-false, cond-true, eq-eqb, eqb-true, le-ltb, ltb-false, ltb-true}
 use Rattle.rows.specs.Rows.{Kind, Price, less, sum}
 use Rattle.rows.specs.Keys.{in-turn}
-use Rattle.rows.proofs.Keys.{in-turn-failed}
-use Rattle.rows.proofs.Lexicographic.{Chains, One-way, lex-chain, lex-one-way}
+use Rattle.rows.proofs.Lexicographic.{Chains, One-way, in-turn-failed, lex-chain, lex-one-way}
 use Rattle.rows.proofs.Order.{less-chain, less-one-way, less-self}
 use Rattle.chart.specs.Meaning.{Link, Meaning, link-at}
 use Rattle.chart.specs.Questions.{leads-into}
@@ -54,10 +53,12 @@ nearer-self a = ⊎-elim (λ t. nearer-one-way a a t) (λ f. f) (cases-bool (nea
 -- what is not nearer costs no less, and at equal cost has no lower from place
 pub not-nearer : (a b : Move) → nearer a b ≡ false → (less (a .cost) (b .cost) ≡ false) × (a .cost ≡ b .cost → b .from ≤ a .from)
 not-nearer a b h =
-    let s = in-turn-failed (by-cost a b) (by-cost b a) (by-place a b) h in
-    (s .0, λ e. ⊎-elim
-      (λ (t : by-cost b a ≡ true). absurd (both-ways (by-cost b a) (ap (λ p. less (b .cost) p) e ∙ less-self (b .cost)) t))
-      (λ (t : by-place a b ≡ false). ltb-false (a .from) (b .from) (in-turn-failed (by-from a b) (by-from b a) (by-number a b) t .0)) (s .1))
+    let s = in-turn-failed (by-cost a b) (by-cost b a) (by-place a b) h in (
+      s .0,
+      λ e. ⊎-elim
+          (λ (t : by-cost b a ≡ true). absurd (both-ways (by-cost b a) (ap (λ p. less (b .cost) p) e ∙ less-self (b .cost)) t))
+          (λ (t : by-place a b ≡ false). ltb-false (a .from) (b .from) (in-turn-failed (by-from a b) (by-from b a) (by-number a b) t .0)) (s .1),
+    )
 
 -- the nearest of a list, where the first link has number n
 
@@ -87,10 +88,13 @@ module _ (k : Kind) (gs : List Price) (x : ℕ) where
       at zero l e t = both-ways (leads-into x (Some l)) (ap (leads-into x) (sym e) ∙ f) t
       at (suc j) l e t = h j l e t
   passed n o ls (Some a) f h = record {
-      at = suc (h .at); link = h .link; named = h .named; leads = h .leads;
-      is = h .is ∙ ap (λ i. move-of k gs i (h .link)) (shift n (h .at));
-      first = λ j. at j
-    }
+    at = suc (h .at);
+    link = h .link;
+    named = h .named;
+    leads = h .leads;
+    is = h .is ∙ ap (λ i. move-of k gs i (h .link)) (shift n (h .at));
+    first = λ j. at j;
+  }
     where
       at : (j : ℕ) (l : Link) → getD (o ∷ ls) j None ≡ Some l → leads-into x (Some l) ≡ true → nearer (move-of k gs (n + j) l) a ≡ false
       at zero l e t = absurd (both-ways (leads-into x (Some l)) (ap (leads-into x) (sym e) ∙ f) t)
@@ -101,10 +105,13 @@ module _ (k : Kind) (gs : List Price) (x : ℕ) where
       ((j : ℕ) (i : Link) → getD ls j None ≡ Some i → leads-into x (Some i) ≡ true → nearer (move-of k gs (suc n + j) i) (move-of k gs n l) ≡ false) →
       Found n (Some l ∷ ls) (move-of k gs n l)
   head-first n l ls t h = record {
-      at = 0; link = l; named = refl; leads = t;
-      is = ap (λ i. move-of k gs i l) (let z : n ≡ n + 0 = omega arith in z);
-      first = λ j. at j
-    }
+    at = 0;
+    link = l;
+    named = refl;
+    leads = t;
+    is = ap (λ i. move-of k gs i l) (let z : n ≡ n + 0 = omega arith in z);
+    first = λ j. at j;
+  }
     where
       at : (j : ℕ) (i : Link) → getD (Some l ∷ ls) j None ≡ Some i → leads-into x (Some i) ≡ true → nearer (move-of k gs (n + j) i) (move-of k gs n l) ≡ false
       at zero i e s =
@@ -116,10 +123,13 @@ module _ (k : Kind) (gs : List Price) (x : ℕ) where
   chosen : (n : ℕ) (l : Link) (ls : List (Option Link)) (a : Move) (b : Bool) → nearer a (move-of k gs n l) ≡ b → leads-into x (Some l) ≡ true →
       Found (suc n) ls a → Found n (Some l ∷ ls) (cond b a (move-of k gs n l))
   chosen n l ls a true e t h = record {
-      at = suc (h .at); link = h .link; named = h .named; leads = h .leads;
-      is = h .is ∙ ap (λ i. move-of k gs i (h .link)) (shift n (h .at));
-      first = λ j. at j
-    }
+    at = suc (h .at);
+    link = h .link;
+    named = h .named;
+    leads = h .leads;
+    is = h .is ∙ ap (λ i. move-of k gs i (h .link)) (shift n (h .at));
+    first = λ j. at j;
+  }
     where
       at : (j : ℕ) (i : Link) → getD (Some l ∷ ls) j None ≡ Some i → leads-into x (Some i) ≡ true → nearer (move-of k gs (n + j) i) a ≡ false
       at zero i d s =
@@ -154,9 +164,9 @@ module _ (k : Kind) (gs : List Price) (x : ℕ) where
   best n (None ∷ ls) = passed n None ls (best-move k gs x (suc n) ls) refl (best (suc n) ls)
   best n (Some l ∷ ls) = ⊎-elim
       (λ (t : leads-into x (Some l) ≡ true). subst (Best n (Some l ∷ ls)) (sym (move-take n (Some l) ls t))
-          (taken n l ls (best-move k gs x (suc n) ls) t (best (suc n) ls)))
+      (taken n l ls (best-move k gs x (suc n) ls) t (best (suc n) ls)))
       (λ (f : leads-into x (Some l) ≡ false). subst (Best n (Some l ∷ ls)) (sym (move-skip n (Some l) ls f))
-          (passed n (Some l) ls (best-move k gs x (suc n) ls) f (best (suc n) ls)))
+      (passed n (Some l) ls (best-move k gs x (suc n) ls) f (best (suc n) ls)))
       (cases-bool (leads-into x (Some l)))
 
 -- a move, the link that it takes, and that no other link into the place is nearer
@@ -177,7 +187,10 @@ module _ (m : Meaning) (gs : List Price) (x : ℕ) where
       let h : Found (m .kind) gs x 0 (m .links) a = subst (Best (m .kind) gs x 0 (m .links)) e (best (m .kind) gs x 0 (m .links)) in
       let same : (j : ℕ) → 0 + j ≡ j = λ j. omega arith in
       record {
-        number = h .at; link = h .link; named = h .named; to-is = eqb-true (h .link .to) x (h .leads);
+        number = h .at;
+        link = h .link;
+        named = h .named;
+        to-is = eqb-true (h .link .to) x (h .leads);
         is = h .is ∙ ap (λ i. move-of (m .kind) gs i (h .link)) (same (h .at));
-        first = λ n l d t. ap (λ i. nearer (move-of (m .kind) gs i l) a) (sym (same n)) ∙ h .first n l d (eq-eqb (l .to) x t)
+        first = λ n l d t. ap (λ i. nearer (move-of (m .kind) gs i l) a) (sym (same n)) ∙ h .first n l d (eq-eqb (l .to) x t);
       }

@@ -9,7 +9,7 @@ use native.Mathlib.Omega.{arith}
 use Rattle.std.proofs.shelf.Tests.{cases-eq, cases-lt}
 use Rattle.rows.specs.Rows.{Price, Proper, less, smaller, sum}
 use Rattle.rows.specs.Keys.{Key, key-less}
-use Rattle.rows.proofs.Keys.{in-turn-failed, in-turn-fails}
+use Rattle.rows.proofs.Lexicographic.{in-turn-failed, in-turn-fails}
 use Rattle.rows.proofs.Sums.{sum-proper}
 use Rattle.rows.proofs.Numbers.{below-top-is-open, less-rank, not-less-rank, rank, rank-capped, rank-less, rank-not-less, rank-same, rank-smaller, rank-sum}
 use Rattle.rows.proofs.Numbers.{rank-zero, smaller-proper, top}
@@ -71,16 +71,16 @@ or-even (inr h) = inr (h .0, omega arith)
 pub upto-by : (a b : Pair) → (Before b a → ⊥) → Upto a b
 upto-by a b f = ⊎-elim (λ (h : a .whole < b .whole). inl h)
     (λ (h : b .whole ≤ a .whole). ⊎-elim (λ (e : b .whole < a .whole). absurd (f (inl e)))
-      (λ (e : a .whole ≤ b .whole). ⊎-elim (λ (o : b .own < a .own). absurd (f (inr (omega arith, o)))) (λ (o : a .own ≤ b .own). inr (omega arith, o))
-          (cases-lt (b .own) (a .own)))
-      (cases-lt (b .whole) (a .whole))) (cases-lt (a .whole) (b .whole))
+    (λ (e : a .whole ≤ b .whole). ⊎-elim (λ (o : b .own < a .own). absurd (f (inr (omega arith, o)))) (λ (o : a .own ≤ b .own). inr (omega arith, o))
+    (cases-lt (b .own) (a .own)))
+    (cases-lt (b .whole) (a .whole))) (cases-lt (a .whole) (b .whole))
 
 pub before-by : (a b : Pair) → (Upto b a → ⊥) → Before a b
 before-by a b f = ⊎-elim (λ (h : a .whole < b .whole). inl h)
     (λ (h : b .whole ≤ a .whole). ⊎-elim (λ (e : b .whole < a .whole). absurd (f (inl e)))
-      (λ (e : a .whole ≤ b .whole). ⊎-elim (λ (o : a .own < b .own). inr (omega arith, o)) (λ (o : b .own ≤ a .own). absurd (f (inr (omega arith, o))))
-          (cases-lt (a .own) (b .own)))
-      (cases-lt (b .whole) (a .whole))) (cases-lt (a .whole) (b .whole))
+    (λ (e : a .whole ≤ b .whole). ⊎-elim (λ (o : a .own < b .own). inr (omega arith, o)) (λ (o : b .own ≤ a .own). absurd (f (inr (omega arith, o))))
+    (cases-lt (a .own) (b .own)))
+    (cases-lt (b .whole) (a .whole))) (cases-lt (a .whole) (b .whole))
 
 pub before-upto : (a b c : Pair) → Before a b → Upto b c → Before a c
 before-upto a b c p q = before-by a c (λ w. omega arith)
@@ -98,19 +98,19 @@ module _ (m : Meaning) (a b : Key) (p q : Pair) (s : Reads m a p) (t : Reads m b
       let f = in-turn-failed (less (a .whole) (b .whole)) (less (b .whole) (a .whole)) (less (a .own) (b .own)) h in
       let w : number m (b .whole) ≤ number m (a .whole) = not-less-rank (m .kind) (a .whole) (b .whole) (s .whole-proper) (t .whole-proper) (f .0) in
       ⊎-elim
-        (λ (e : less (b .whole) (a .whole) ≡ true). inl
-            (omega (arith, less-rank (m .kind) (b .whole) (a .whole) (t .whole-proper) (s .whole-proper) e, s .whole, t .whole)))
-        (λ (e : less (a .own) (b .own) ≡ false). upto-by q p
-            (λ v. omega (arith, w, not-less-rank (m .kind) (a .own) (b .own) (s .own-proper) (t .own-proper) e, s .whole, t .whole, s .own, t .own)))
-        (f .1)
+      (λ (e : less (b .whole) (a .whole) ≡ true). inl
+      (omega (arith, less-rank (m .kind) (b .whole) (a .whole) (t .whole-proper) (s .whole-proper) e, s .whole, t .whole)))
+      (λ (e : less (a .own) (b .own) ≡ false). upto-by q p
+      (λ v. omega (arith, w, not-less-rank (m .kind) (a .own) (b .own) (s .own-proper) (t .own-proper) e, s .whole, t .whole, s .own, t .own)))
+      (f .1)
 
   pub below-not : Upto q p → key-less a b ≡ false
   below-not u = in-turn-fails (less (a .whole) (b .whole)) (less (b .whole) (a .whole)) (less (a .own) (b .own))
       (rank-not-less (m .kind) (a .whole) (b .whole) (s .whole-proper) (t .whole-proper) (omega (arith, u, s .whole, t .whole)))
       (⊎-elim
-        (λ (h : q .whole < p .whole). inl (rank-less (m .kind) (b .whole) (a .whole) (t .whole-proper) (s .whole-proper) (omega (arith, s .whole, t .whole))))
-        (λ (h : (q .whole ≡ p .whole) × (q .own ≤ p .own)). inr
-            (rank-not-less (m .kind) (a .own) (b .own) (s .own-proper) (t .own-proper) (omega (arith, s .own, t .own)))) u)
+      (λ (h : q .whole < p .whole). inl (rank-less (m .kind) (b .whole) (a .whole) (t .whole-proper) (s .whole-proper) (omega (arith, s .whole, t .whole))))
+      (λ (h : (q .whole ≡ p .whole) × (q .own ≤ p .own)). inr
+      (rank-not-less (m .kind) (a .own) (b .own) (s .own-proper) (t .own-proper) (omega (arith, s .own, t .own)))) u)
 
 module _ (m : Meaning) (law : Lawful m) (gs : List Price) (b : Bounds m gs) where
   pub ahead-capped : (x : ℕ) → ahead m gs x ≤ limit m
@@ -134,9 +134,12 @@ module _ (m : Meaning) (law : Lawful m) (gs : List Price) (b : Bounds m gs) wher
   pub ahead-below : (n : ℕ) (l : Link) → link-at m n ≡ Some l → ahead m gs (l .to) ≤ plus m (stand m gs (l .from)) (cost m l)
   ahead-below n l e = ⊎-elim
       (λ (q : l .to ≡ m .start). let z : ahead m gs (l .to) ≡ 0 = ap (ahead m gs) q ∙ ahead-start in omega arith)
-      (λ (u : l .to ≡ m .start → ⊥). omega
-          (arith, over-link n l e, not-less-rank (m .kind) (sum (m .kind) (standing-at gs (l .from)) (l .price)) (lookahead m gs (l .to)) (over-proper n l e)
-          (look-proper m law gs b (l .to)) (look-below m gs n l e u)))
+      (λ (u : l .to ≡ m .start → ⊥). omega (
+        arith,
+        over-link n l e,
+        not-less-rank (m .kind) (sum (m .kind) (standing-at gs (l .from)) (l .price)) (lookahead m gs (l .to)) (over-proper n l e)
+            (look-proper m law gs b (l .to)) (look-below m gs n l e u),
+      ))
       (cases-eq (l .to) (m .start))
 
   pub ahead-by : (x : ℕ) → ahead m gs x < limit m → (x ≡ m .start) ⊎ By m gs x
@@ -160,5 +163,5 @@ module _ (m : Meaning) (law : Lawful m) (gs : List Price) (b : Bounds m gs) wher
             (uncapped-estimate m law (smaller s a) x l (own-within m law gs b x l)) ∙ ap (λ (v : ℕ). plus m v (heuristic m x)) r;
         own = r;
         whole-proper = sum-proper (m .kind) (smaller s a) (estimate-at m x) p (estimate-proper m law x l);
-        own-proper = p
+        own-proper = p;
       }

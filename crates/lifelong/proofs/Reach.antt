@@ -33,11 +33,11 @@ link-key m law n l e a b lt le =
     let f-proper = floor-proper m law n l e in
     let rises : less (sum k (l .floor) (estimate-at m (l .to))) (estimate-at m (l .from)) ≡ false = subst (Consistent m) e (law .consistent n) in
     let s : rank k (sum k (l .floor) (estimate-at m (l .to))) ≡ plus m (rank k (l .floor)) (heuristic m (l .to)) =
-        rank-sum k (l .floor) (estimate-at m (l .to)) f-proper to-proper
-            (uncapped-estimate m law (l .floor) (l .to) (w .to-in) (within-more k 1 4096 (l .floor) (omega arith) (floor-within m law n l e))) in
+    rank-sum k (l .floor) (estimate-at m (l .to)) f-proper to-proper
+    (uncapped-estimate m law (l .floor) (l .to) (w .to-in) (within-more k 1 4096 (l .floor) (omega arith) (floor-within m law n l e))) in
     let h : heuristic m (l .from) ≤ rank k (sum k (l .floor) (estimate-at m (l .to))) =
-        not-less-rank k (sum k (l .floor) (estimate-at m (l .to))) (estimate-at m (l .from))
-            (sum-proper k (l .floor) (estimate-at m (l .to)) f-proper to-proper) from-proper rises in
+    not-less-rank k (sum k (l .floor) (estimate-at m (l .to))) (estimate-at m (l .from))
+    (sum-proper k (l .floor) (estimate-at m (l .to)) f-proper to-proper) from-proper rises in
     let f = floor-rank m law n l e in
     let f0 : 0 < rank k (l .floor) = f .0 in
     let f1 : rank k (l .floor) ≤ cost m l = f .1 in
@@ -57,7 +57,7 @@ module _ (m : Meaning) (law : Lawful m) (gs : List Price) (b : Bounds m gs) (k :
   pub even-below : (x v : ℕ) → x < places m → min (stand m gs x) (ahead m gs x) ≤ v → Before (pair-at m x v) k → Even m gs x
   even-below x v l le h = ⊎-elim (λ (e : stand m gs x ≡ ahead m gs x). even-rank m law gs b x l e)
       (λ (u : stand m gs x ≡ ahead m gs x → ⊥). let w : Upto k (pair m gs x) = low x l (λ e. u (ap (number m) e)) in absurd (omega arith))
-          (cases-eq (stand m gs x) (ahead m gs x))
+      (cases-eq (stand m gs x) (ahead m gs x))
 
   -- where a chain's key is at most k, that of the chain up to its last link is below k
   last-link : (n : ℕ) (l : Link) → link-at m n ≡ Some l → {ps : List ℕ} {p : Price} → Chain m (l .from) ps p →
@@ -73,7 +73,7 @@ module _ (m : Meaning) (law : Lawful m) (gs : List Price) (b : Bounds m gs) (k :
   reach begin h =
       let z : ahead m gs (m .start) ≡ 0 = ahead-start m law gs b in
       let e : stand m gs (m .start) ≡ ahead m gs (m .start) =
-          ap (number m) (even-below (m .start) (number m (zero-of (m .kind))) (law .start-in) (omega arith) h) in
+      ap (number m) (even-below (m .start) (number m (zero-of (m .kind))) (law .start-in) (omega arith) h) in
       omega arith
   reach (more {p = p} n l e o c f) h =
       let v = number m (sum (m .kind) p (l .price)) in
@@ -95,9 +95,9 @@ module _ (m : Meaning) (law : Lawful m) (gs : List Price) (b : Bounds m gs) (k :
 
   pub least-start : Least-chain m gs (m .start) (m .start ∷ [])
   least-start = record {
-      chain = rw (look-start m gs) begin;
-      rising = λ z. ⊎-elim (λ (p : z ≡ m .start). rw p (omega arith)) (λ (q : ⊥). absurd q)
-    }
+    chain = rw (look-start m gs) begin;
+    rising = λ z. ⊎-elim (λ (p : z ≡ m .start). rw p (omega arith)) (λ (q : ⊥). absurd q);
+  }
 
   pub by-value : (x : ℕ) (y : By m gs x) → ahead m gs x ≡ plus m (stand m gs (y .link .from)) (cost m (y .link))
   by-value x y = ap (number m) (y .gives) ∙ over-link m law gs b (y .number) (y .link) (y .named)
@@ -110,7 +110,7 @@ module _ (m : Meaning) (law : Lawful m) (gs : List Price) (b : Bounds m gs) (k :
       let v : ahead m gs x ≡ plus m (stand m gs (l .from)) (cost m l) = by-value x y in
       let d : 0 < cost m l = price-rank m law (y .number) l (y .named) in
       let first : Before (pair-at m (l .from) (stand m gs (l .from))) (pair-at m (l .to) (ahead m gs x)) =
-          link-key m law (y .number) l (y .named) (stand m gs (l .from)) (ahead m gs x) (omega arith) (omega arith) in
+      link-key m law (y .number) l (y .named) (stand m gs (l .from)) (ahead m gs x) (omega arith) (omega arith) in
       before-upto (pair-at m (l .from) (stand m gs (l .from))) (pair-at m (l .to) (ahead m gs x)) k first (rw (y .to-is) u)
 
   pub from-even : (x : ℕ) (y : By m gs x) → ahead m gs x < limit m → Upto (pair-at m x (ahead m gs x)) k → Even m gs (y .link .from)
@@ -142,9 +142,9 @@ module _ (m : Meaning) (law : Lawful m) (gs : List Price) (b : Bounds m gs) (k :
         chain = subst (λ (z : ℕ). Chain m z (z ∷ ps) (lookahead m gs x)) (y .to-is)
             (subst (Chain m (l .to) (l .to ∷ ps)) (ap (λ (p : Price). sum (m .kind) p (l .price)) (sym even) ∙ sym (y .gives))
             (more (y .number) l (y .named) (below-top-is-open (m .kind) (l .price) (omega arith)) (w .chain)
-              (λ a. let r : ahead m gs (l .to) ≤ ahead m gs (l .from) = w .rising (l .to) a in omega arith)));
+            (λ a. let r : ahead m gs (l .to) ≤ ahead m gs (l .from) = w .rising (l .to) a in omega arith)));
         rising = λ z. ⊎-elim (λ (p : z ≡ x). rw p (omega arith))
-          (λ (q : Among z ps). let r : ahead m gs z ≤ ahead m gs (l .from) = w .rising z q in omega arith)
+            (λ (q : Among z ps). let r : ahead m gs z ≤ ahead m gs (l .from) = w .rising z q in omega arith);
       }
 
   -- following such links back from x one comes to the start
@@ -162,8 +162,8 @@ module _ (m : Meaning) (law : Lawful m) (gs : List Price) (b : Bounds m gs) (k :
   pub look-true : (x : ℕ) → Upto (pair-at m x (ahead m gs x)) k → True-distance m x (lookahead m gs x)
   look-true x u = distance-by m law x (lookahead m gs x)
       (λ ps q c. rank-not-less (m .kind) q (lookahead m gs x) (chain-proper m law c) (look-proper m law gs b x) (⊎-elim
-        (λ (h : number m q < ahead m gs x). let r : ahead m gs x ≤ number m q = reach-ahead c (upto-by (pair-at m x (number m q)) k (λ w. omega arith)) in r)
-        (λ (h : ahead m gs x ≤ number m q). h) (cases-lt (number m q) (ahead m gs x))))
+      (λ (h : number m q < ahead m gs x). let r : ahead m gs x ≤ number m q = reach-ahead c (upto-by (pair-at m x (number m q)) k (λ w. omega arith)) in r)
+      (λ (h : ahead m gs x ≤ number m q). h) (cases-lt (number m q) (ahead m gs x))))
       (⊎-elim
-        (λ (h : ahead m gs x < limit m). let w = back (suc (ahead m gs x)) x (omega arith) h u in inl (w .0, w .1 .chain))
-        (λ (h : limit m ≤ ahead m gs x). inr (top-is-closed (m .kind) (lookahead m gs x) (look-proper m law gs b x) h)) (cases-lt (ahead m gs x) (limit m)))
+      (λ (h : ahead m gs x < limit m). let w = back (suc (ahead m gs x)) x (omega arith) h u in inl (w .0, w .1 .chain))
+      (λ (h : limit m ≤ ahead m gs x). inr (top-is-closed (m .kind) (lookahead m gs x) (look-proper m law gs b x) h)) (cases-lt (ahead m gs x) (limit m)))

@@ -59,7 +59,7 @@ module _ (m : Meaning) (law : Lawful m) where
   closed-lowered : (gs : List Price) (p : ℕ) → Taken m gs p → standing-at gs p ≡ closed → less (lookahead m gs p) (standing-at gs p) ≡ true
   closed-lowered gs p t c = ⊎-elim (λ (h : less (lookahead m gs p) (standing-at gs p) ≡ true). h)
       (λ (f : less (lookahead m gs p) (standing-at gs p) ≡ false). absurd
-          (both-ways (less closed (lookahead m gs p)) refl (rw c at (else-below m gs p (t .uneven) f))))
+      (both-ways (less closed (lookahead m gs p)) refl (rw c at (else-below m gs p (t .uneven) f))))
       (cases-bool (less (lookahead m gs p) (standing-at gs p)))
 
   -- so it is not raised again
@@ -72,24 +72,25 @@ module _ (m : Meaning) (law : Lawful m) where
       let t = next-taken m gs p e in
       let here : x ≡ p → less (lookahead m gs p) (standing-at gs p) ≡ true = λ q. closed-lowered gs p t (rw q at c) in ⊎-elim
       (λ (q : record { place = x; change = raised } ≡ expansion m gs p). not-raised (less (lookahead m gs p) (standing-at gs p))
-          (ap (λ (z : Expansion). z .change) q) (here (ap (λ (z : Expansion). z .place) q)))
+      (ap (λ (z : Expansion). z .change) q) (here (ap (λ (z : Expansion). z .place) q)))
       (λ (j : Among (record { place = x; change = raised }) (r .steps)). ⊎-elim
-        (λ (q : x ≡ p). true-kept w (step-bounds m law gs b p e) p (taken-lowered m law gs b p t (here q))
-            (subst (λ z. Among z (expanded r)) q (map-among (λ (z : Expansion). z .place) (r .steps) (record { place = x; change = raised }) j)))
-        (λ (n : x ≡ p → ⊥). closed-kept w (step-bounds m law gs b p e) x (step-elsewhere m gs p x n ∙ c) j) (cases-eq x p)) i
+      (λ (q : x ≡ p). true-kept w (step-bounds m law gs b p e) p (taken-lowered m law gs b p t (here q))
+      (subst (λ z. Among z (expanded r)) q (map-among (λ (z : Expansion). z .place) (r .steps) (record { place = x; change = raised }) j)))
+      (λ (n : x ≡ p → ⊥). closed-kept w (step-bounds m law gs b p e) x (step-elsewhere m gs p x n ∙ c) j) (cases-eq x p)) i
 
   ran-distinct : {n : ℕ} {gs : List Price} {r : Run} → Ran m n gs r → Bounds m gs → Distinct (r .steps)
   ran-distinct spent b = tt
   ran-distinct (stops s) b = tt
   ran-distinct (stuck e) b = tt
   ran-distinct (takes {gs = gs} {r = r} p f e w) b = let t = next-taken m gs p e in let b′ = step-bounds m law gs b p e in (
-      (λ i. ⊎-elim
+    (λ i. ⊎-elim
         (λ (h : less (lookahead m gs p) (standing-at gs p) ≡ true). true-kept w b′ p (taken-lowered m law gs b p t h)
-            (map-among (λ (z : Expansion). z .place) (r .steps) (expansion m gs p) i))
+        (map-among (λ (z : Expansion). z .place) (r .steps) (expansion m gs p) i))
         (λ (g : less (lookahead m gs p) (standing-at gs p) ≡ false). closed-kept w b′ p (taken-raised m law gs b p t g)
-          (subst (λ c. Among (record { place = p; change = c }) (r .steps)) (cond-false (less (lookahead m gs p) (standing-at gs p)) lowered raised g) i))
+        (subst (λ c. Among (record { place = p; change = c }) (r .steps)) (cond-false (less (lookahead m gs p) (standing-at gs p)) lowered raised g) i))
         (cases-bool (less (lookahead m gs p) (standing-at gs p)))),
-      ran-distinct w b′)
+    ran-distinct w b′,
+  )
 
   steps-inside : {n : ℕ} {gs : List Price} {r : Run} → Ran m n gs r → (x : Expansion) → Among x (r .steps) → x .place < places m
   steps-inside spent x i = absurd i
@@ -105,9 +106,9 @@ module _ (m : Meaning) (law : Lawful m) where
 
   pub stuck-settled : (gs : List Price) → next m gs ≡ None → settled m gs ≡ true
   stuck-settled gs e = is-settled m gs (record {
-      even = none-even m gs e (m .goal) (law .goal-in);
-      first = λ q l u. absurd (u (none-even m gs e q l))
-    })
+    even = none-even m gs e (m .goal) (law .goal-in);
+    first = λ q l u. absurd (u (none-even m gs e q l));
+  })
 
   -- a run spends its budget or ends settled
   ran-ends : {n : ℕ} {gs : List Price} {r : Run} → Ran m n gs r → (length (r .steps) ≡ n) ⊎ (settled m (r .left) ≡ true)
@@ -158,9 +159,9 @@ module _ (m : Meaning) (law : Lawful m) where
     pub ends-settled : settled m (repair m gs .left) ≡ true
     ends-settled = ⊎-elim
         (λ (z : length (repair m gs .steps) ≡ 2 * places m). ⊎-elim (λ (t : settled m (repair m gs .left) ≡ true). t)
-          (λ (f : settled m (repair m gs .left) ≡ false).
-            let o = one-more (repair m gs .left) f (next m (repair m gs .left)) refl in
-            let j = ap (λ (r : Run). length (r .steps)) (runs-join m (2 * places m) 1 gs) in
-            let a = length-append (repair m gs .steps) (run m 1 (repair m gs .left) .steps) in
-            let h = few-steps (2 * places m + 1) in absurd (omega arith)) (cases-bool (settled m (repair m gs .left))))
+        (λ (f : settled m (repair m gs .left) ≡ false).
+        let o = one-more (repair m gs .left) f (next m (repair m gs .left)) refl in
+        let j = ap (λ (r : Run). length (r .steps)) (runs-join m (2 * places m) 1 gs) in
+        let a = length-append (repair m gs .steps) (run m 1 (repair m gs .left) .steps) in
+        let h = few-steps (2 * places m + 1) in absurd (omega arith)) (cases-bool (settled m (repair m gs .left))))
         (λ (z : settled m (repair m gs .left) ≡ true). z) (ran-ends (run-ran m (2 * places m) gs))

@@ -37,29 +37,29 @@ module _ (m : Meaning) (law : Lawful m) (gs : List Price) (b : Bounds m gs) wher
   pub lowered-true : (p : ℕ) → Taken m gs p → less (lookahead m gs p) (standing-at gs p) ≡ true → True-distance m p (lookahead m gs p)
   lowered-true p t h =
       let r : ahead m gs p < stand m gs p =
-          less-rank (m .kind) (lookahead m gs p) (standing-at gs p) (look-proper m law gs b p) (stand-proper m law gs b p (t .inside)) h in
+      less-rank (m .kind) (lookahead m gs p) (standing-at gs p) (look-proper m law gs b p) (stand-proper m law gs b p (t .inside)) h in
       look-true m law gs b (pair m gs p) (taken-bound p t) p (upto-by (pair-at m p (ahead m gs p)) (pair m gs p) (λ w. omega arith))
 
   pub settled-true : Settled m gs → True-distance m (m .goal) (standing-at gs (m .goal))
   settled-true s =
       let e : stand m gs (m .goal) ≡ ahead m gs (m .goal) = ap (number m) (s .even) in
       rw (s .even) (look-true m law gs b (pair m gs (m .goal)) (settled-bound s) (m .goal)
-          (upto-by (pair-at m (m .goal) (ahead m gs (m .goal))) (pair m gs (m .goal)) (λ w. omega arith)))
+      (upto-by (pair-at m (m .goal) (ahead m gs (m .goal))) (pair m gs (m .goal)) (λ w. omega arith)))
 
   pub true-not-taken : (p : ℕ) → Taken m gs p → True-distance m p (standing-at gs p) → ⊥
   true-not-taken p t d = ⊎-elim
       (λ (h : less (lookahead m gs p) (standing-at gs p) ≡ true). t .uneven (one-distance m law p (standing-at gs p) (lookahead m gs p) d (lowered-true p t h)))
       (λ (f : less (lookahead m gs p) (standing-at gs p) ≡ false).
-        let r : stand m gs p < ahead m gs p =
-            less-rank (m .kind) (standing-at gs p) (lookahead m gs p) (stand-proper m law gs b p (t .inside)) (look-proper m law gs b p)
-            (else-below m gs p (t .uneven) f) in
-        let c : ahead m gs p ≤ limit m = ahead-capped m law gs b p in ⊎-elim
-        (λ (w : (ps : List ℕ) × Chain m p ps (standing-at gs p)).
-          let q : ahead m gs p ≤ stand m gs p =
-              reach-ahead m law gs b (pair m gs p) (taken-bound p t) (w .1) (upto-by (pair-at m p (stand m gs p)) (pair m gs p) (λ v. omega arith)) in
-              omega arith)
-        (λ (w : (standing-at gs p ≡ closed) × ((ps : List ℕ) (q : Price) → Chain m p ps q → ⊥)). omega (arith, ap (number m) (w .0), rank-closed (m .kind)))
-            (d .met))
+      let r : stand m gs p < ahead m gs p =
+      less-rank (m .kind) (standing-at gs p) (lookahead m gs p) (stand-proper m law gs b p (t .inside)) (look-proper m law gs b p)
+      (else-below m gs p (t .uneven) f) in
+      let c : ahead m gs p ≤ limit m = ahead-capped m law gs b p in ⊎-elim
+      (λ (w : (ps : List ℕ) × Chain m p ps (standing-at gs p)).
+      let q : ahead m gs p ≤ stand m gs p =
+      reach-ahead m law gs b (pair m gs p) (taken-bound p t) (w .1) (upto-by (pair-at m p (stand m gs p)) (pair m gs p) (λ v. omega arith)) in
+      omega arith)
+      (λ (w : (standing-at gs p ≡ closed) × ((ps : List ℕ) (q : Price) → Chain m p ps q → ⊥)). omega (arith, ap (number m) (w .0), rank-closed (m .kind)))
+      (d .met))
       (cases-bool (less (lookahead m gs p) (standing-at gs p)))
 
   long-enough : (p : ℕ) → Taken m gs p → p < length gs
@@ -78,8 +78,8 @@ module _ (m : Meaning) (law : Lawful m) (gs : List Price) (b : Bounds m gs) wher
       record {
         long = omega (arith, b .long, step-long m gs p);
         low = λ q l. ⊎-elim
-          (λ (s : q ≡ p). rw s (⊎-elim
+            (λ (s : q ≡ p). rw s (⊎-elim
             (λ (h : less (lookahead m gs p) (standing-at gs p) ≡ true). distance-within m law p (standing-at (step m gs p) p) (taken-lowered p t h))
             (λ (f : less (lookahead m gs p) (standing-at gs p) ≡ false). rw (taken-raised p t f) tt) (cases-bool (less (lookahead m gs p) (standing-at gs p)))))
-          (λ (n : q ≡ p → ⊥). rw (step-elsewhere m gs p q n) (b .low q l)) (cases-eq q p)
+            (λ (n : q ≡ p → ⊥). rw (step-elsewhere m gs p q n) (b .low q l)) (cases-eq q p);
       }

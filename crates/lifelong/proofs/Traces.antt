@@ -88,16 +88,18 @@ module _ (m : Meaning) (law : Lawful m) (gs : List Price) (b : Bounds m gs) (k :
       let c : sum (m .kind) (standing-at gs (h .link .from)) (h .link .price) ≡ a .cost = sym (ap (λ (z : Move). z .cost) (h .is)) in
       let f : h .link .from ≡ a .from = sym (ap (λ (z : Move). z .from) (h .is)) in
       let above : less (lookahead m gs x) (a .cost) ≡ false =
-          rw (y .gives) (not-nearer (move-of (m .kind) gs (y .number) (y .link)) a (h .first (y .number) (y .link) (y .named) (y .to-is)) .0) in
+      rw (y .gives) (not-nearer (move-of (m .kind) gs (y .number) (y .link)) a (h .first (y .number) (y .link) (y .named) (y .to-is)) .0) in
       let below : less (sum (m .kind) (standing-at gs (h .link .from)) (h .link .price)) (lookahead m gs x) ≡ false =
-          subst (λ (z : ℕ). less (sum (m .kind) (standing-at gs (h .link .from)) (h .link .price)) (lookahead m gs z) ≡ false) (h .to-is)
-              (look-below m gs (h .number) (h .link) (h .named) (λ q. u (sym (h .to-is) ∙ q))) in
+      subst (λ (z : ℕ). less (sum (m .kind) (standing-at gs (h .link .from)) (h .link .price)) (lookahead m gs z) ≡ false) (h .to-is)
+      (look-below m gs (h .number) (h .link) (h .named) (λ q. u (sym (h .to-is) ∙ q))) in
       let same : a .cost ≡ lookahead m gs x = less-total (a .cost) (lookahead m gs x) (rw c at below) above in
       record {
-        taken = a; is = e;
+        taken = a;
+        is = e;
         by = record { number = h .number; link = h .link; named = h .named; to-is = h .to-is; gives = sym (c ∙ same) };
-        from-is = f; cost-is = same;
-        lowest = λ n l d t q. not-nearer (move-of (m .kind) gs n l) a (h .first n l d t) .1 (q ∙ sym same)
+        from-is = f;
+        cost-is = same;
+        lowest = λ n l d t q. not-nearer (move-of (m .kind) gs n l) a (h .first n l d t) .1 (q ∙ sym same);
       }
 
   fixed-move : (x : ℕ) → (x ≡ m .start → ⊥) → Fixed m gs k x → Move-by x
@@ -109,10 +111,10 @@ module _ (m : Meaning) (law : Lawful m) (gs : List Price) (b : Bounds m gs) (k :
 
   fixed-from : (x : ℕ) → Fixed m gs k x → (y : By m gs x) → Fixed m gs k (y .link .from)
   fixed-from x f y = record {
-      even = from-even m law gs b k bound x y (f .opens) (f .low);
-      opens = omega (arith, from-ahead m law gs b k bound x y (f .opens) (f .low), f .opens);
-      low = from-low m law gs b k bound x y (f .opens) (f .low)
-    }
+    even = from-even m law gs b k bound x y (f .opens) (f .low);
+    opens = omega (arith, from-ahead m law gs b k bound x y (f .opens) (f .low), f .opens);
+    low = from-low m law gs b k bound x y (f .opens) (f .low);
+  }
 
   pub fixed-true : (x : ℕ) → Fixed m gs k x → True-distance m x (standing-at gs x)
   fixed-true x f = rw (f .even) (look-true m law gs b k bound x (f .low))
@@ -126,11 +128,11 @@ module _ (m : Meaning) (law : Lawful m) (gs : List Price) (b : Bounds m gs) (k :
     standing-low h =
         let o : ahead m gs x < limit m = f .opens in ⊎-elim
         (λ (w : (ps : List ℕ) × Chain m (l .from) ps p).
-          let first : Before (pair-at m (l .from) (number m p)) (pair-at m (l .to) (ahead m gs x)) =
-              link-key m law n l e (number m p) (ahead m gs x) (omega arith) h in
-          reach m law gs b k bound (w .1) (before-upto (pair-at m (l .from) (number m p)) (pair-at m (l .to) (ahead m gs x)) k first (rw t (f .low))))
+        let first : Before (pair-at m (l .from) (number m p)) (pair-at m (l .to) (ahead m gs x)) =
+        link-key m law n l e (number m p) (ahead m gs x) (omega arith) h in
+        reach m law gs b k bound (w .1) (before-upto (pair-at m (l .from) (number m p)) (pair-at m (l .to) (ahead m gs x)) k first (rw t (f .low))))
         (λ (w : (p ≡ closed) × ((ps : List ℕ) (q : Price) → Chain m (l .from) ps q → ⊥)).
-          let z : number m p ≡ limit m = ap (number m) (w .0) ∙ rank-closed (m .kind) in absurd (omega arith)) (d .met)
+        let z : number m p ≡ limit m = ap (number m) (w .0) ∙ rank-closed (m .kind) in absurd (omega arith)) (d .met)
 
     ahead-low : ahead m gs x ≤ plus m (stand m gs (l .from)) (cost m l)
     ahead-low = subst (λ (z : ℕ). ahead m gs z ≤ plus m (stand m gs (l .from)) (cost m l)) t (ahead-below m law gs b n l e)
@@ -149,9 +151,9 @@ module _ (m : Meaning) (law : Lawful m) (gs : List Price) (b : Bounds m gs) (k :
         let s : stand m gs (l .from) ≤ number m p = standing-low (omega arith) in
         let a = ahead-low in
         rank-same (m .kind) (sum (m .kind) (standing-at gs (l .from)) (l .price)) (lookahead m gs x)
-          (sum-proper (m .kind) (standing-at gs (l .from)) (l .price) (stand-proper m law gs b (l .from) (link-law m law n l e .from-in))
-              (price-proper m law n l e)) (look-proper m law gs b x)
-          (omega (arith, over-link m law gs b n l e))
+        (sum-proper (m .kind) (standing-at gs (l .from)) (l .price) (stand-proper m law gs b (l .from) (link-law m law n l e .from-in))
+        (price-proper m law n l e)) (look-proper m law gs b x)
+        (omega (arith, over-link m law gs b n l e))
 
   -- so the move is one by true distances
   true-move : (x : ℕ) → Fixed m gs k x → (h : Move-by x) → True-move m x (h .taken .from)
@@ -159,11 +161,15 @@ module _ (m : Meaning) (law : Lawful m) (gs : List Price) (b : Bounds m gs) (k :
       let y = h .by in
       let gives : sum (m .kind) (standing-at gs (y .link .from)) (y .link .price) ≡ lookahead m gs x = sym (y .gives) in
       record {
-        number = y .number; link = y .link; named = y .named; from-is = h .from-is; to-is = y .to-is;
+        number = y .number;
+        link = y .link;
+        named = y .named;
+        from-is = h .from-is;
+        to-is = y .to-is;
         far = standing-at gs (y .link .from);
         is-far = subst (λ (z : ℕ). True-distance m z (standing-at gs (y .link .from))) (h .from-is) (fixed-true (y .link .from) (fixed-from x f y));
         least = λ n l p e t d. rw gives (none-less x f n l p e t d);
-        lowest = λ n l p e t d q. h .lowest n l e t (tie-stands x f n l p e t d (q ∙ gives))
+        lowest = λ n l p e t d q. h .lowest n l e t (tie-stands x f n l p e t d (q ∙ gives));
       }
 
   -- the walk from a fixed place, with its chain
@@ -190,7 +196,7 @@ module _ (m : Meaning) (law : Lawful m) (gs : List Price) (b : Bounds m gs) (k :
             least-chain = least-more m law gs b k bound x y (f .opens) (f .low) (s .least-chain);
             walked = by-move x (h .taken) u (h .is) (ap is-open (h .cost-is) ∙ below-top-is-open (m .kind) (lookahead m gs x) (f .opens))
                 (subst (λ (z : ℕ). Walked m gs z (s .met)) (h .from-is) (s .walked));
-            true-trace = moved x u (true-move x f h) (subst (λ (z : ℕ). True-trace m z (s .met)) (h .from-is) (s .true-trace))
+            true-trace = moved x u (true-move x f h) (subst (λ (z : ℕ). True-trace m z (s .met)) (h .from-is) (s .true-trace));
           }
 
 module _ (m : Meaning) (law : Lawful m) (gs : List Price) (b : Bounds m gs) (t : settled m gs ≡ true) where
@@ -201,7 +207,7 @@ module _ (m : Meaning) (law : Lawful m) (gs : List Price) (b : Bounds m gs) (t :
       record {
         even = s .even;
         opens = omega (arith, rank-open (m .kind) (standing-at gs (m .goal)) (stand-proper m law gs b (m .goal) (law .goal-in)) o);
-        low = upto-by (pair-at m (m .goal) (ahead m gs (m .goal))) (pair m gs (m .goal)) (λ w. omega arith)
+        low = upto-by (pair-at m (m .goal) (ahead m gs (m .goal))) (pair m gs (m .goal)) (λ w. omega arith);
       }
 
   pub settled-distance : True-distance m (m .goal) (standing-at gs (m .goal))
@@ -212,20 +218,22 @@ module _ (m : Meaning) (law : Lawful m) (gs : List Price) (b : Bounds m gs) (t :
       let s = settled-is m gs t in
       let k = pair m gs (m .goal) in
       let w : Shown m law gs b k (settled-bound m law gs b s) (m .goal) =
-          shown m law gs b k (settled-bound m law gs b s) (suc (ahead m gs (m .goal))) (m .goal) (omega arith) (settled-fixed o) in
+      shown m law gs b k (settled-bound m law gs b s) (suc (ahead m gs (m .goal))) (m .goal) (omega arith) (settled-fixed o) in
       let c : Chain m (m .goal) (w .met) (standing-at gs (m .goal)) = subst (Chain m (m .goal) (w .met)) (sym (s .even)) (w .least-chain .chain) in
       let f : length (w .met) ≤ places m = chain-few m law c in
-      let r : reverse (reverse (w .met)) ≡ w .met = reverse-reverse (w .met) in
-      (reverse (w .met), record {
-        shown = cond-true (is-open (standing-at gs (m .goal))) (traced (walk m gs (places m) (m .goal))) none o ∙ ap traced
-            (walked-walk m gs (places m) (w .walked) (omega arith));
-        moves = omega (arith, length-reverse (w .met));
-        route = subst (λ ps. Chain m (m .goal) ps (standing-at gs (m .goal))) (sym r) c;
-        as-places = least-price m law c settled-distance;
-        distance = settled-distance;
-        least = λ qs q d. settled-distance .least (reverse qs) q d;
-        by-distances = subst (True-trace m (m .goal)) (sym r) (w .true-trace)
-      })
+      let r : reverse (reverse (w .met)) ≡ w .met = reverse-reverse (w .met) in (
+        reverse (w .met),
+        record {
+          shown = cond-true (is-open (standing-at gs (m .goal))) (traced (walk m gs (places m) (m .goal))) none o ∙ ap traced
+              (walked-walk m gs (places m) (w .walked) (omega arith));
+          moves = omega (arith, length-reverse (w .met));
+          route = subst (λ ps. Chain m (m .goal) ps (standing-at gs (m .goal))) (sym r) c;
+          as-places = least-price m law c settled-distance;
+          distance = settled-distance;
+          least = λ qs q d. settled-distance .least (reverse qs) q d;
+          by-distances = subst (True-trace m (m .goal)) (sym r) (w .true-trace);
+        },
+      )
 
   pub closed-no-route : standing-at gs (m .goal) ≡ closed → No-route m
   closed-no-route e ps p c = distance-closed m law (m .goal) (standing-at gs (m .goal)) settled-distance e (reverse ps) p c
@@ -247,7 +255,7 @@ module _ (m : Meaning) (law : Lawful m) (gs : List Price) (b : Bounds m gs) (t :
   never-misses e = ⊎-elim
       (λ (o : is-open (standing-at gs (m .goal)) ≡ true). let z : _≡_ {A = ℕ} 0 1 = cc (shows-cheapest o .1 .shown) in omega arith)
       (λ (o : is-open (standing-at gs (m .goal)) ≡ false).
-        let n : trace m gs ≡ none = closed-shows-none (not-open (standing-at gs (m .goal)) o) in let z : _≡_ {A = ℕ} 0 1 = cc in omega arith)
+      let n : trace m gs ≡ none = closed-shows-none (not-open (standing-at gs (m .goal)) o) in let z : _≡_ {A = ℕ} 0 1 = cc in omega arith)
       (cases-bool (is-open (standing-at gs (m .goal))))
 
   pub none-no-route : (trace m gs ≡ none → No-route m) × (No-route m → trace m gs ≡ none)
@@ -262,9 +270,15 @@ one-move m x y z p q =
     let a = p .least (q .number) (q .link) (q .far) (q .named) (q .to-is) dq in
     let c = q .least (p .number) (p .link) (p .far) (p .named) (p .to-is) dp in
     let same : sum (m .kind) (q .far) (q .link .price) ≡ sum (m .kind) (p .far) (p .link .price) =
-        less-total (sum (m .kind) (q .far) (q .link .price)) (sum (m .kind) (p .far) (p .link .price)) a c in
-    omega (arith, p .lowest (q .number) (q .link) (q .far) (q .named) (q .to-is) dq same, q .lowest (p .number) (p .link) (p .far) (p .named) (p .to-is) dp
-        (sym same), p .from-is, q .from-is)
+    less-total (sum (m .kind) (q .far) (q .link .price)) (sum (m .kind) (p .far) (p .link .price)) a c in
+    omega (
+      arith,
+      p .lowest (q .number) (q .link) (q .far) (q .named) (q .to-is) dq same,
+      q .lowest (p .number) (p .link) (p .far) (p .named) (p .to-is) dp
+          (sym same),
+      p .from-is,
+      q .from-is,
+    )
 
 same-trace : (m : Meaning) {x y : ℕ} {ps qs : List ℕ} → x ≡ y → True-trace m x ps → True-trace m y qs → ps ≡ qs
 same-trace m e arrived arrived = refl
@@ -279,15 +293,15 @@ one-true-trace m law x ps qs p q = same-trace m refl p q
 pub one-trace : One-trace
 one-trace m law gs hs bg bh tg th =
     let e : standing-at gs (m .goal) ≡ standing-at hs (m .goal) =
-        one-distance m law (m .goal) (standing-at gs (m .goal)) (standing-at hs (m .goal)) (settled-distance m law gs bg tg)
-        (settled-distance m law hs bh th) in
+    one-distance m law (m .goal) (standing-at gs (m .goal)) (standing-at hs (m .goal)) (settled-distance m law gs bg tg)
+    (settled-distance m law hs bh th) in
     ⊎-elim
     (λ (o : is-open (standing-at gs (m .goal)) ≡ true).
-      let p = shows-cheapest m law gs bg tg o in
-      let q = shows-cheapest m law hs bh th (ap is-open (sym e) ∙ o) in
-      let r : reverse (p .0) ≡ reverse (q .0) = same-trace m refl (p .1 .by-distances) (q .1 .by-distances) in
-      p .1 .shown ∙ ap shows (sym (reverse-reverse (p .0)) ∙ ap reverse r ∙ reverse-reverse (q .0)) ∙ sym (q .1 .shown))
+    let p = shows-cheapest m law gs bg tg o in
+    let q = shows-cheapest m law hs bh th (ap is-open (sym e) ∙ o) in
+    let r : reverse (p .0) ≡ reverse (q .0) = same-trace m refl (p .1 .by-distances) (q .1 .by-distances) in
+    p .1 .shown ∙ ap shows (sym (reverse-reverse (p .0)) ∙ ap reverse r ∙ reverse-reverse (q .0)) ∙ sym (q .1 .shown))
     (λ (o : is-open (standing-at gs (m .goal)) ≡ false).
-      let c = not-open (standing-at gs (m .goal)) o in
-      closed-shows-none m law gs bg tg c ∙ sym (closed-shows-none m law hs bh th (sym e ∙ c)))
+    let c = not-open (standing-at gs (m .goal)) o in
+    closed-shows-none m law gs bg tg c ∙ sym (closed-shows-none m law hs bh th (sym e ∙ c)))
     (cases-bool (is-open (standing-at gs (m .goal))))

@@ -49,10 +49,10 @@ module _ (m : Meaning) (law : Lawful m) where
   module _ (gs hs : List Price) (a : Agree m gs hs) where
     taken-same : (p : ℕ) → Taken m gs p → Taken m hs p
     taken-same p t = record {
-        inside = t .inside;
-        uneven = λ e. t .uneven (even-same hs gs (back gs hs a) p (t .inside) e);
-        first = λ q l u. sym (λ i. before (key-same gs hs a q l i) q (key-same gs hs a p (t .inside) i) p) ∙ t .first q l (λ e. u (even-same gs hs a q l e))
-      }
+      inside = t .inside;
+      uneven = λ e. t .uneven (even-same hs gs (back gs hs a) p (t .inside) e);
+      first = λ q l u. sym (λ i. before (key-same gs hs a q l i) q (key-same gs hs a p (t .inside) i) p) ∙ t .first q l (λ e. u (even-same gs hs a q l e));
+    }
 
     next-by : (o : Option ℕ) → next m gs ≡ o → next m hs ≡ o
     next-by None e = even-none m hs (λ p l. even-same gs hs a p l (none-even m gs e p l))
@@ -63,17 +63,17 @@ module _ (m : Meaning) (law : Lawful m) where
 
     settled-too : settled m gs ≡ true → settled m hs ≡ true
     settled-too t = let s = settled-is m gs t in is-settled m hs (record {
-        even = even-same gs hs a (m .goal) (law .goal-in) (s .even);
-        first = λ q l u. sym (λ i. key-less (key-same gs hs a q l i) (key-same gs hs a (m .goal) (law .goal-in) i)) ∙ s .first q l
-            (λ e. u (even-same gs hs a q l e))
-      })
+      even = even-same gs hs a (m .goal) (law .goal-in) (s .even);
+      first = λ q l u. sym (λ i. key-less (key-same gs hs a q l i) (key-same gs hs a (m .goal) (law .goal-in) i)) ∙ s .first q l
+          (λ e. u (even-same gs hs a q l e));
+    })
 
   settled-same : (gs hs : List Price) → Agree m gs hs → settled m gs ≡ settled m hs
   settled-same gs hs a = ⊎-elim
       (λ (t : settled m gs ≡ true). t ∙ sym (settled-too gs hs a t))
       (λ (f : settled m gs ≡ false). ⊎-elim
-        (λ (t : settled m hs ≡ true). absurd (both-ways (settled m gs) f (settled-too hs gs (back gs hs a) t)))
-        (λ (g : settled m hs ≡ false). f ∙ sym g) (cases-bool (settled m hs))) (cases-bool (settled m gs))
+      (λ (t : settled m hs ≡ true). absurd (both-ways (settled m gs) f (settled-too hs gs (back gs hs a) t)))
+      (λ (g : settled m hs ≡ false). f ∙ sym g) (cases-bool (settled m hs))) (cases-bool (settled m gs))
 
   module _ (gs hs : List Price) (a : Agree m gs hs) (lg : places m ≤ length gs) (lh : places m ≤ length hs) where
     step-same : (p : ℕ) → p < places m → Agree m (step m gs p) (step m hs p)
@@ -92,10 +92,10 @@ module _ (m : Meaning) (law : Lawful m) where
   run-agree zero gs hs a lg lh = rw (run-none m gs, run-none m hs) (record { steps = refl; left = a })
   run-agree (suc n) gs hs a lg lh = ⊎-elim
       (λ (t : settled m gs ≡ true). rw (run-settled m gs (suc n) t, run-settled m hs (suc n) (sym (settled-same gs hs a) ∙ t))
-          (record { steps = refl; left = a }))
+      (record { steps = refl; left = a }))
       (λ (f : settled m gs ≡ false). on f
-          (λ p l. run-agree n (step m gs p) (step m hs p) (step-same gs hs a lg lh p l) (omega (arith, step-long m gs p)) (omega (arith, step-long m hs p)))
-          (next m gs) refl)
+      (λ p l. run-agree n (step m gs p) (step m hs p) (step-same gs hs a lg lh p l) (omega (arith, step-long m gs p)) (omega (arith, step-long m hs p)))
+      (next m gs) refl)
       (cases-bool (settled m gs))
     where
       on : settled m gs ≡ false → ((p : ℕ) → p < places m → Runs-agree (run m n (step m gs p)) (run m n (step m hs p))) → (o : Option ℕ) → next m gs ≡ o →
@@ -106,7 +106,7 @@ module _ (m : Meaning) (law : Lawful m) where
           let l = next-taken m gs p e .inside in
           let r = ih p l in
           rw (run-step m gs n p f e, run-step m hs n p (sym (settled-same gs hs a) ∙ f) (next-by gs hs a (Some p) e))
-            (record { steps = λ i. expansion-same gs hs a lg lh p l i ∷ r .steps i; left = r .left })
+          (record { steps = λ i. expansion-same gs hs a lg lh p l i ∷ r .steps i; left = r .left })
 
   -- the trace
   module _ (gs hs : List Price) (a : Agree m gs hs) where
@@ -143,5 +143,5 @@ past-unread m law gs hs lg lh a = record {
   settled-same = settled-same m law gs hs a;
   run-same = λ n. run-agree m law n gs hs a lg lh .steps;
   left-same = λ n. run-agree m law n gs hs a lg lh .left;
-  trace-same = trace-same m law gs hs a
+  trace-same = trace-same m law gs hs a;
 }

@@ -40,8 +40,17 @@ consistent (suc (suc (suc n))) = tt
 
 pub three-lawful : Lawful three
 three-lawful = record {
-  some = omega arith; measured = refl; places-few = omega arith; start-in = omega arith; goal-in = omega arith; links-few = omega arith; height-low = omega arith;
-  links-law = links; estimates-law = estimates; goal-zero = refl; consistent = consistent
+  some = omega arith;
+  measured = refl;
+  places-few = omega arith;
+  start-in = omega arith;
+  goal-in = omega arith;
+  links-few = omega arith;
+  height-low = omega arith;
+  links-law = links;
+  estimates-law = estimates;
+  goal-zero = refl;
+  consistent = consistent;
 }
 
 bounds : Bounds three (fresh three)
@@ -50,22 +59,49 @@ bounds = closed-within three (fresh three) (omega arith) (λ p l. getD-replicate
 pub premises-met : Premises-met
 unfolding run settled next-below uneven key lookahead least-over step
 premises-met = record {
-  lawful = three-lawful; bounds = bounds; steps = refl; steps-again = refl; lowers = refl; settles = refl; shows-route = refl; true-standing = start-distance three three-lawful
+  lawful = three-lawful;
+  bounds = bounds;
+  steps = refl;
+  steps-again = refl;
+  lowers = refl;
+  settles = refl;
+  shows-route = refl;
+  true-standing = start-distance three three-lawful;
 }
 
 pub table-holds : All-hold table
 unfolding run settled next-below uneven key lookahead least-over step walk best-move
-table-holds = ( record { distance = refl; steps = refl; answer = refl }
-  , ( record { distance = refl; steps = refl; answer = refl }
-  , ( record { distance = refl; steps = refl; answer = refl }
-  , ( record { distance = refl; steps = refl; answer = refl }
-  , ( record { distance = refl; steps = refl; answer = refl }
-  , ( record { distance = refl; steps = refl; answer = refl }
-  , ( record { distance = refl; steps = refl; answer = refl }
-  , ( record { distance = refl; steps = refl; answer = refl }
-  , ( record { distance = refl; steps = refl; answer = refl }
-  , ( record { distance = refl; steps = refl; answer = refl }
-  , tt ))))))))))
+table-holds = (
+  record { distance = refl; steps = refl; answer = refl },
+  (
+    record { distance = refl; steps = refl; answer = refl },
+    (
+      record { distance = refl; steps = refl; answer = refl },
+      (
+        record { distance = refl; steps = refl; answer = refl },
+        (
+          record { distance = refl; steps = refl; answer = refl },
+          (
+            record { distance = refl; steps = refl; answer = refl },
+            (
+              record { distance = refl; steps = refl; answer = refl },
+              (
+                record { distance = refl; steps = refl; answer = refl },
+                (
+                  record { distance = refl; steps = refl; answer = refl },
+                  (
+                    record { distance = refl; steps = refl; answer = refl },
+                    tt,
+                  ),
+                ),
+              ),
+            ),
+          ),
+        ),
+      ),
+    ),
+  ),
+)
 
 pub refused : Refused
 refused = record { held = refl; low = refl; unnamed = refl }

@@ -62,14 +62,19 @@ row-tells c (x ∷ xs) (y ∷ ys) e f h = go (row-tells c xs ys (omega arith) be
   where
     below-x : all-below c xs ≡ true
     below-x = and-parts (ltb x c) (all-below c xs) f .1
+
     below-y : all-below c ys ≡ true
     below-y = and-parts (ltb y c) (all-below c ys) h .1
+
     w : width c ys ≡ width c xs
     w = ap (λ n. c ^ n) (omega arith)
+
     vx : value c xs < width c xs
     vx = value-below c xs below-x
+
     vy : value c ys < width c ys
     vy = value-below c ys below-y
+
     go : Tells (row-less xs ys) (value c xs) (value c ys) → (x ≡ y) ⊎ ((x < y) ⊎ (y < x)) →
         Tells (cond (eqb x y) (row-less xs ys) (ltb x y)) (x * width c xs + value c xs) (y * width c ys + value c ys)
     go t (inl q) = rw (eq-eqb x y q, w, q) (⊎-elim
