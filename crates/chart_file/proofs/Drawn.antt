@@ -10,10 +10,10 @@ use Rattle.std.specs.declared.option.Option.the-variants.{None}
 use Rattle.chart.specs.Lawful.{Lawful}
 use Rattle.chart_file.specs.Checks.{at-link, estimate-holds, goal-is-zero, in-limits, lowest-failing, records-refusal, refuse, require}
 use Rattle.chart_file.specs.File.{drawn, four-bytes, link-record, link-records, place-record, place-records, trailer-of}
-use Rattle.chart_file.specs.Records.{estimate-of, keeps-estimate, keeps-rules}
+use Rattle.chart_file.specs.Records.{estimate-of, keeps-estimate, keeps-rules, link-in, no-link, no-place, place-in}
 use Rattle.chart_file.specs.declared.records.LinkRecord.{LinkRecord}
 use Rattle.chart_file.specs.declared.records.PlaceRecord.{PlaceRecord}
-use Rattle.chart_file.proofs.Lawful.{Rules, link-in, no-link, no-place, place-in, records-lawful}
+use Rattle.chart_file.proofs.Lawful.{Rules, records-lawful}
 use Rattle.chart_file.proofs.Limits.{both-none, required, unlinked, within}
 use Rattle.chart_file.proofs.Lowest.{holds-at}
 use Rattle.chart_file.proofs.Ruled.{ruled}
@@ -34,7 +34,7 @@ module _ (file : List ℕ) (bytes : (i : ℕ) → getD file i 0 < 256) where
   pub links-are : length (link-records file) ≡ trailer-of file .links
   links-are = length-map-counting (link-record file) 0 (trailer-of file .links)
 
-  rules : in-limits (trailer-of file) (length file) ≡ true → records-refusal file ≡ None → Rules (trailer-of file .start) (trailer-of file .goal) (place-records file) (link-records file)
+  pub rules : in-limits (trailer-of file) (length file) ≡ true → records-refusal file ≡ None → Rules (trailer-of file .start) (trailer-of file .goal) (place-records file) (link-records file)
   rules h e =
       let t = trailer-of file in
       let w = within t (length file) h in

@@ -16,23 +16,10 @@ use Rattle.price.specs.Kinds.{lift-kind}
 use Rattle.chart.specs.Lawful.{Consistent, Estimate-law, Lawful, Lawful-link, Link-law}
 use Rattle.chart.specs.Meaning.{Link, estimate-at, link-at}
 use Rattle.chart_file.specs.Checks.{goal-is-zero}
-use Rattle.chart_file.specs.Records.{estimate-of, floor-of, keeps-estimate, keeps-rules, lifts-ms, link-of, records-mean}
+use Rattle.chart_file.specs.Records.{link-in, no-link, no-place, place-in, estimate-of, floor-of, keeps-estimate, keeps-rules, lifts-ms, link-of, records-mean}
 use Rattle.chart_file.specs.declared.records.LinkRecord.{LinkRecord}
 use Rattle.chart_file.specs.declared.records.PlaceRecord.{PlaceRecord}
 use Rattle.chart_file.proofs.Ruled.{ruled}
-
--- what stands where there is no record
-abbrev pub no-place : PlaceRecord
-no-place = record { lifts = 0; ms = 0 }
-
-abbrev pub no-link : LinkRecord
-no-link = record { from = 0; to = 0; «floor_lifts» = 0; «price_lifts» = 0; «floor_ms» = 0; «price_ms» = 0 }
-
-abbrev pub place-in : List PlaceRecord → ℕ → PlaceRecord
-place-in ps p = getD ps p no-place
-
-abbrev pub link-in : List LinkRecord → ℕ → LinkRecord
-link-in ls n = getD ls n no-link
 
 pub record Rules (start goal : ℕ) (ps : List PlaceRecord) (ls : List LinkRecord) : Type 0 where
   pub places-few : length ps ≤ 4096

@@ -26,6 +26,7 @@ unlinked by (Some n) e = let z : _≡_ {A = ℕ} 0 1 = cc in absurd (omega arith
 
 -- the trailer's limits, as orders of numbers
 pub record Within (t : Trailer) (bytes : ℕ) : Type 0 where
+  pub some : 1 ≤ t .places
   pub few : t .places ≤ 4096
   pub links-few : t .links ≤ 16384
   pub start-in : t .start < t .places
@@ -45,6 +46,7 @@ within t bytes h =
     let e = and-parts (ltb (t .start) (t .places)) (ltb (t .goal) (t .places)) (q .1) in
     let f = and-parts (eqb (t .back) (8 * t .places + 16 * t .links + 16)) (leb (t .back) bytes) (p .1) in
     record {
+      some = leb-true 1 (t .places) (d .0);
       few = leb-true (t .places) 4096 (d .1);
       links-few = leb-true (t .links) 16384 (c .1);
       start-in = ltb-true (t .start) (t .places) (e .0);

@@ -1,12 +1,12 @@
 -- Why a chart file is refused, if it is: one definition over all its records.
 use mathlib.Core.Path.{_≡_}
 use mathlib.Core.Bool.{Bool, true, false, cond, not, _&&_}
-use mathlib.Core.List.{List, [], _∷_}
+use mathlib.Core.List.{List, [], _∷_, _++_}
 use Prim.Native.Nat.{ℕ, suc, _+_, _*_, _≤_}
 use lib.Dec.{eqb, leb, ltb}
-use lib.ListN.{length}
+use lib.ListN.{drop, length}
 use Rattle.rows.specs.Rows.{Price}
-use Rattle.chart.specs.Refusals.{Refusal}
+use Rattle.chart.specs.Refusals.{Refusal, unless}
 use Rattle.std.specs.Options.{mapped}
 use Rattle.std.specs.declared.option.Option.{Option}
 use Rattle.std.specs.declared.option.Option.the-variants.{Some, None}
@@ -86,3 +86,9 @@ pub record Passed (file : List ℕ) (place-room link-room : ℕ) (t : Trailer) :
   pub places-fit : t .places ≤ place-room
   pub links-fit : t .links ≤ link-room
   pub records : records-refusal file ≡ None
+
+-- memory after the records of a file were copied over its first, as many as the file counts; as it was where the file
+-- has no trailer within the limits, or there is no room
+abbrev pub copied : {X : Type 0} → List ℕ → ℕ → List X → List X → List X
+copied file count rs memory =
+    unless (or-else (trailer-refusal file) (require (leb count (length memory)) (refuse 9 None))) memory (rs ++ drop count memory)

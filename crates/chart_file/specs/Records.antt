@@ -2,6 +2,7 @@
 use mathlib.Core.Bool.{Bool, cond, not, _&&_}
 use mathlib.Core.List.{List, [], _∷_, map}
 use Prim.Native.Nat.{ℕ}
+use lib.ListN.{getD}
 use lib.Dec.{eqb, ltb}
 use Rattle.rows.specs.Rows.{Price, closed, less, linkable, open-at, sum, zero-of}
 use Rattle.price.specs.Kinds.{lift-kind}
@@ -48,3 +49,16 @@ keeps-rules places l =
 -- the estimate of the from place is at most the floor plus the estimate of the to place
 abbrev pub keeps-estimate : Price → Price → LinkRecord → Bool
 keeps-estimate from to l = not (less (sum lift-kind (floor-of l) to) from)
+
+-- what stands where there is no record
+abbrev pub no-place : PlaceRecord
+no-place = record { lifts = 0; ms = 0 }
+
+abbrev pub no-link : LinkRecord
+no-link = record { from = 0; to = 0; «floor_lifts» = 0; «price_lifts» = 0; «floor_ms» = 0; «price_ms» = 0 }
+
+abbrev pub place-in : List PlaceRecord → ℕ → PlaceRecord
+place-in ps p = getD ps p no-place
+
+abbrev pub link-in : List LinkRecord → ℕ → LinkRecord
+link-in ls n = getD ls n no-link

@@ -31,7 +31,7 @@ fn is_zero(place: PlaceRecord) -> bool
 }
 
 // The trailer, or a refusal by 1 or 2.
-fn check_trailer(file: &[u8]) -> Result<Trailer, ChartFault>
+pub(crate) fn check_trailer(file: &[u8]) -> Result<Trailer, ChartFault>
     ensures answer { λ r. ⌜ refused r ≡ trailer-refusal (now (file .entry)) ⌝ }
     ensures whole { λ r. ⌜ made r (λ t. t ≡ trailer-of (now (file .entry))) ⌝ }
     ensures within { λ r. ⌜ made r (λ t. in-limits t (length (now (file .entry))) ≡ true) ⌝ }

@@ -6,9 +6,8 @@ use native.Mathlib.Omega.{arith}
 use lib.ListN.{drop, getD, length}
 use Rattle.std.proofs.shelf.Lists.{at-drop-all, at-drop-more}
 use Rattle.rows.specs.Rows.{is-open}
-use Rattle.chart_file.specs.Records.{price-of}
+use Rattle.chart_file.specs.Records.{no-link, price-of}
 use Rattle.chart_file.specs.declared.records.LinkRecord.{LinkRecord}
-use Rattle.chart_file.proofs.Lawful.{no-link}
 use Rattle.travel.specs.Survey.{open-count}
 use Rattle.travel.proofs.survey.count_open.Needs as need
 use Rattle.travel.proofs.survey.count_open.Needs.{then-is-open, else-is-open}

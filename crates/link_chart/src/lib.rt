@@ -1,0 +1,5 @@
+// The chart over lent place records and link records, filled from a chart file.
+pub mod over;
+pub mod read;
+
+pub use over::LinkChart;
