@@ -5,7 +5,7 @@ ghost use lib.ListN.{length};
 ghost use Rattle.chart.specs.Lawful.{Lawful};
 ghost use Rattle.chart.specs.Meaning.{Meaning, link-at, places as place-count, priced};
 ghost use Rattle.chart.specs.Questions.{Next, answered, into, leads-into, leads-out, out-of};
-ghost use Rattle.chart.specs.Refusals.{refusal, refused, told, unless};
+ghost use Rattle.chart.specs.Refusals.{refusal, refusal-at, refused, told, unless};
 ghost use Rattle.std.specs.Options.{mapped};
 ghost use Rattle.std.specs.Results.{isErr};
 ghost use Rattle.std.specs.shelf.Maps.{nth};
@@ -83,30 +83,41 @@ pub trait Chart {
         ensures same { λ r. ⌜ (isErr r ≡ true → now (self .exit) ≡ now (self .entry)) ⌝ };
 }
 
-// What setting this price would be refused by. Nothing changes.
-pub fn refusal_of<C: Chart>(chart: &C, link: u16, price: C::Price) -> Option<ChartFault>
-    ensures { λ r. ⌜ mapped told r ≡ refusal (C·Chart .meaning (now (chart .entry))) link (Price·PriceKind .value price) ⌝ }
+// What setting a price would be refused by, at the link that a number names, if it names one.
+pub fn price_refusal<P: PriceKind>(
+    number: u16,
+    link: Option<Link<P>>,
+    price: P,
+) -> Option<ChartFault>
+    ensures { λ r. ⌜ mapped told r ≡ refusal-at (P·PriceKind .kind) (mapped (answered (P·PriceKind .value)) link) number (P·PriceKind .value price) ⌝ }
 {
-    let Some(asked) = chart.link(link) else {
+    let Some(link) = link else {
         return Some(ChartFault {
             cause: Cause::NoLink,
-            link: Some(link),
+            link: Some(number),
             height: 0,
         });
     };
-    if asked.held != 0 {
+    if link.held != 0 {
         return Some(ChartFault {
             cause: Cause::Held,
-            link: Some(link),
-            height: asked.held,
+            link: Some(number),
+            height: link.held,
         });
     }
-    if price.below(asked.floor) || !price.fits_link() {
+    if price.below(link.floor) || !price.fits_link() {
         return Some(ChartFault {
             cause: Cause::BadPrice,
-            link: Some(link),
+            link: Some(number),
             height: 0,
         });
     }
     None
+}
+
+// What setting this price would be refused by. Nothing changes.
+pub fn refusal_of<C: Chart>(chart: &C, link: u16, price: C::Price) -> Option<ChartFault>
+    ensures { λ r. ⌜ mapped told r ≡ refusal (C·Chart .meaning (now (chart .entry))) link (Price·PriceKind .value price) ⌝ }
+{
+    price_refusal(link, chart.link(link), price)
 }

@@ -4,6 +4,7 @@ pub mod fault;
 pub mod link;
 
 pub use chart::Chart;
+pub use chart::price_refusal;
 pub use chart::refusal_of;
 pub use fault::Cause;
 pub use fault::CauseDisplay;
