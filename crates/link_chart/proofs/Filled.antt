@@ -1,16 +1,13 @@
 -- Memory that a file was copied into keeps the rules.
-use mathlib.Core.Path.{_≡_, refl, sym, ap, subst, _∙_}
-use mathlib.Core.Bool.{Bool, true, false, cond}
+use mathlib.Core.Path.{_≡_, sym, ap, subst, _∙_}
 use mathlib.Core.List.{List, [], _∷_, _++_}
 use Prim.Native.Nat.{ℕ, _+_, _<_, _≤_}
 use native.Mathlib.Omega.{arith}
 use lib.Dec.{eqb, leb}
 use lib.ListN.{drop, getD, length, take}
-use Rattle.std.proofs.shelf.Lists.{length-append, length-drop}
+use Rattle.std.proofs.shelf.Lists.{length-append}
 use Rattle.std.proofs.shelf.Tests.{cond-false, le-leb, ne-eqb}
-use Rattle.std.specs.declared.option.Option.{Option}
 use Rattle.std.specs.declared.option.Option.the-variants.{None}
-use Rattle.chart.specs.Refusals.{Refusal, unless}
 use Rattle.chart_file.proofs.Drawn.{links-are, places-are, rules}
 use Rattle.chart_file.proofs.Lawful.{Rules}
 use Rattle.chart_file.proofs.Limits.{both-none, within}

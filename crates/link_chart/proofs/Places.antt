@@ -1,5 +1,5 @@
 -- The places of a link chart and their estimates.
-use mathlib.Core.Path.{_≡_, refl, sym, ap, _∙_}
+use mathlib.Core.Path.{_≡_, sym, ap, _∙_}
 use mathlib.Core.List.{List, [], _∷_, map}
 use Prim.Native.Nat.{ℕ, _<_, _≤_}
 use native.Mathlib.Omega.{arith}
@@ -13,7 +13,7 @@ use Rattle.std.specs.declared.option.Option.the-variants.{Some, None}
 use Rattle.chart_file.specs.Records.{estimate-of, no-place}
 use Rattle.chart_file.specs.declared.records.PlaceRecord.{PlaceRecord}
 use Rattle.link_chart.specs.Rules.{places-of}
-use Rattle.rows.specs.Rows.{Price, closed}
+use Rattle.rows.specs.Rows.{closed}
 
 module _ (count : ℕ) (ps : List PlaceRecord) (room : count ≤ length ps) where
   filled : (count ≡ 0 → ⊥) → places-of count ps ≡ take count ps

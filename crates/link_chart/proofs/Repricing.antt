@@ -11,8 +11,8 @@ use Rattle.std.proofs.shelf.Lists.{getD-set-other, getD-set-same, getD-take, le
 use Rattle.std.proofs.shelf.Tests.{and-from, and-parts, both-ways, cases-bool, cases-eq, cases-lt, cond-false, eqb-true, not-from-false, not-false, or-parts}
 use Rattle.std.specs.declared.option.Option.{Option}
 use Rattle.std.specs.declared.option.Option.the-variants.{Some, None}
-use Rattle.chart.specs.Meaning.{Link, Meaning, link-at, priced, with-price}
-use Rattle.chart.specs.Refusals.{Refusal, refusal, refusal-at}
+use Rattle.chart.specs.Meaning.{Link, priced, with-price}
+use Rattle.chart.specs.Refusals.{Refusal, refusal-at}
 use Rattle.chart_file.specs.Records.{estimate-of, floor-of, keeps-estimate, keeps-rules, lifts-ms, link-in, link-of, no-link, place-in, price-of, records-mean}
 use Rattle.chart_file.specs.declared.records.LinkRecord.{LinkRecord}
 use Rattle.chart_file.specs.declared.records.PlaceRecord.{PlaceRecord}
@@ -23,7 +23,7 @@ use Rattle.link_chart.proofs.Tables.{table-at, table-past}
 use Rattle.price.specs.Kinds.{lift-kind, lift-value}
 use Rattle.price.specs.declared.lift.Lift.{Lift}
 use Rattle.price.specs.declared.lift.Lift.the-variants as lift
-use Rattle.rows.specs.Rows.{Price, closed, less, linkable, open-at, zero-of}
+use Rattle.rows.specs.Rows.{Price, closed, less, linkable, zero-of}
 
 -- lists
 

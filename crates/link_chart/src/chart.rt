@@ -1,7 +1,6 @@
 // A link chart is a chart.
 ghost use Rattle.link_chart.specs.Drawn.{chart-lawful, chart-of};
 use crate::over::LinkChart;
-use crate::reprice::with_price;
 use crate::search::End;
 use crate::search::next_at;
 use crate::search::nth_at;
@@ -9,7 +8,6 @@ use chart::Chart;
 use chart::ChartFault;
 use chart::Link;
 use chart::price_refusal;
-use chart_file::LinkRecord;
 use price::Lift;
 use price::LiftKind;
 use price::PriceKind;
@@ -22,11 +20,7 @@ pub impl<'a> Chart for LinkChart<'a> as LinkChartChart {
     ghost lawful = { chart-lawful };
 
     fn places(&self) -> u16 {
-        if self.place_count == 0 {
-            1
-        } else {
-            self.place_count
-        }
+        self.place_total()
     }
 
     fn start(&self) -> u16 {
@@ -42,14 +36,13 @@ pub impl<'a> Chart for LinkChart<'a> as LinkChartChart {
     }
 
     fn link_numbers(&self) -> u16 {
-        self.link_count
+        self.link_total()
     }
 
     fn link(&self, number: u16) -> Option<Link<Lift>> {
-        if number >= self.link_count {
+        let Some(record) = self.link_record(number) else {
             return None;
-        }
-        let record = self.links[usize::from(number)];
+        };
         Some(Link {
             from: record.from,
             to: record.to,
@@ -60,13 +53,9 @@ pub impl<'a> Chart for LinkChart<'a> as LinkChartChart {
     }
 
     fn estimate(&self, place: u16) -> Option<Lift> {
-        if place < self.place_count {
-            return Some(self.places[usize::from(place)].estimate());
-        }
-        if place < self.places() {
-            Some(Lift::zero())
-        } else {
-            None
+        match self.place_record(place) {
+            Some(record) => Some(record.estimate()),
+            None => None,
         }
     }
 
@@ -102,8 +91,7 @@ pub impl<'a> Chart for LinkChart<'a> as LinkChartChart {
         if let Some(fault) = price_refusal(link, self.link(link), price) {
             return Err(fault);
         }
-        let record = with_price(self.links[usize::from(link)], price);
-        self.links[usize::from(link)] = record;
+        self.reprice(link, price);
         Ok(())
     }
 }

@@ -1,5 +1,6 @@
 // The chart over lent place records and link records, filled from a chart file.
 pub mod chart;
+mod memory;
 pub mod over;
 pub mod read;
 mod reprice;

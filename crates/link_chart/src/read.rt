@@ -12,8 +12,6 @@ use chart::ChartFault;
 use chart_file::LinkRecord;
 use chart_file::PlaceRecord;
 use chart_file::check_file;
-use chart_file::copy_links;
-use chart_file::copy_places;
 
 impl<'a> LinkChart<'a> {
     // A chart of one place and no links over any lent records, to be filled from a file. Nothing is written.
@@ -43,20 +41,7 @@ impl<'a> LinkChart<'a> {
         ensures lender { λ _. ⌜ name (now (self .exit) .places) ≡ name (now (self .entry) .places) ⌝ ∗ ⌜ name (now (self .exit) .links) ≡ name (now (self .entry) .links) ⌝ }
     {
         let trailer = check_file(file, self.places.len(), self.links.len())?;
-        let LinkChart {
-            places,
-            links,
-            start,
-            goal,
-            place_count,
-            link_count,
-        } = self;
-        copy_places(file, places);
-        copy_links(file, links);
-        *start = trailer.start;
-        *goal = trailer.goal;
-        *place_count = trailer.places;
-        *link_count = trailer.links;
+        self.fill(file, trailer);
         Ok(())
     }
 }

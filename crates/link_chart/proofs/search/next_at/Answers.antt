@@ -2,7 +2,7 @@ use mathlib.Core.Path.{_≡_}
 use mathlib.Core.Logic.{⊎-elim}
 use Prim.Native.Nat.{ℕ, _<_, _≤_}
 use native.Mathlib.Omega.{arith}
-use Rattle.std.proofs.shelf.Tests.{cases-eq, cases-lt}
+use Rattle.std.proofs.shelf.Tests.{cases-lt}
 use Rattle.link_chart.proofs.Tables.{ends-past, seen, table-length, unseen}
 use Rattle.link_chart.proofs.search.next_at.Needs as need
 use mathlib.Core.Path.{subst, sym}

@@ -1,25 +1,17 @@
-use mathlib.Core.Path.{_≡_, refl, sym, ap, subst, _∙_}
-use mathlib.Core.Bool.{true}
+use mathlib.Core.Path.{_≡_, sym, ap, subst, _∙_}
 use mathlib.Core.List.{List}
-use Prim.Native.Nat.{ℕ, _<_, _≤_}
+use Prim.Native.Nat.{ℕ, _≤_}
 use native.Mathlib.Omega.{arith}
 use lib.ListN.{getD, length, set, take}
-use Rattle.std.proofs.shelf.Tests.{both-ways}
-use Rattle.std.specs.declared.option.Option.{Option}
-use Rattle.std.specs.declared.option.Option.the-variants.{None}
-use Rattle.chart.specs.Meaning.{Link, priced}
-use Rattle.chart.specs.Refusals.{refusal, refusal-at}
-use Rattle.chart_file.proofs.Written.{not-refused}
 use Rattle.chart_file.specs.Records.{no-link, records-mean}
 use Rattle.chart_file.specs.declared.records.LinkRecord.{LinkRecord}
 use Rattle.chart_file.specs.declared.records.PlaceRecord.{PlaceRecord}
-use Rattle.link_chart.specs.Drawn.{chart-of, place-records}
-use Rattle.link_chart.specs.Ends.{table-of}
+use Rattle.link_chart.specs.Drawn.{place-records}
 use Rattle.link_chart.specs.Repriced.{repriced}
 use Rattle.link_chart.specs.Rules.{Estimated, Ruled}
-use Rattle.link_chart.proofs.Repricing.{estimated-after, here, inside, length-after, priced-after, room-after, ruled-after}
-use Rattle.link_chart.proofs.chart.LinkChartChart.set_price.Needs as need
-use Rattle.price.specs.Kinds.{lift-kind, lift-value}
+use Rattle.link_chart.proofs.Repricing.{estimated-after, inside, length-after, priced-after, room-after, ruled-after}
+use Rattle.link_chart.proofs.over.LinkChart.reprice.Needs as need
+use Rattle.price.specs.Kinds.{lift-value}
 use Rattle.rows.specs.Rows.{Price}
 
 -- what the rules ask of the link records
@@ -37,14 +29,14 @@ written ls n i j p r ei ej er = λ k. set ls (ej k) ((er ∙ ap (λ (m : ℕ). r
 pub index-self-from : need.index-self-from
 index-self-from c =
     let chart = c .args .self .now in
-    let accepted = c .in-rest .ensures tt ∙ ap (λ (o : Option Link). refusal-at lift-kind o (c .args .link) (lift-value (c .args .price))) (c .link .ensures .answer) in
+    let accepted = c .pre in
     let l = inside (chart .links .now) (chart .«link_count») (c .args .link) (chart .«link_room») (lift-value (c .args .price)) accepted in
     omega (arith, l, chart .«link_room», c .from .ensures)
 
 pub index-self-from-2 : need.index-self-from-2
 index-self-from-2 c =
     let chart = c .args .self .now in
-    let accepted = c .in-rest .ensures tt ∙ ap (λ (o : Option Link). refusal-at lift-kind o (c .args .link) (lift-value (c .args .price))) (c .link .ensures .answer) in
+    let accepted = c .pre in
     let l = inside (chart .links .now) (chart .«link_count») (c .args .link) (chart .«link_room») (lift-value (c .args .price)) accepted in
     omega (arith, l, chart .«link_room», c .from-2 .ensures)
 
@@ -56,7 +48,7 @@ ghost-self c =
     let count = chart .«link_count» in
     let ps = place-records chart in
     let v = c .args .price in
-    let accepted = c .in-rest .ensures tt ∙ ap (λ (o : Option Link). refusal-at lift-kind o n (lift-value v)) (c .link .ensures .answer) in
+    let accepted = c .pre in
     let e = written ls n (c .from .result) (c .from-2 .result) (lift-value v) (c .with-price-record .result) (c .from .ensures) (c .from-2 .ensures) (c .with-price-record .ensures) in
     let rest : Rest ps count (set ls n (repriced (getD ls n no-link) (lift-value v))) = record {
       room = room-after (chart .start) (chart .goal) ps ls count n (chart .«link_room») v accepted (chart .ruled);
@@ -70,17 +62,6 @@ ghost-self c =
 pub returns : need.returns
 returns c =
     let chart = c .args .self .now in
-    let ls = chart .links .now in
-    let n = c .args .link in
-    let count = chart .«link_count» in
-    let ps = place-records chart in
-    let v = c .args .price in
-    let accepted = c .in-rest .ensures tt ∙ ap (λ (o : Option Link). refusal-at lift-kind o n (lift-value v)) (c .link .ensures .answer) in
-    let e = written ls n (c .from .result) (c .from-2 .result) (lift-value v) (c .with-price-record .result) (c .from .ensures) (c .from-2 .ensures) (c .with-price-record .ensures) in
-    record {
-      answer = accepted;
-      after = ap (λ (ks : List LinkRecord). records-mean (chart .start) (chart .goal) ps (take count ks)) e
-          ∙ priced-after (chart .start) (chart .goal) ps ls count n (chart .«link_room») v accepted (chart .ruled)
-          ∙ sym (not-refused (refusal (chart-of chart) n (lift-value v)) accepted (chart-of chart) (priced (chart-of chart) n (lift-value v)));
-      same = λ f. absurd (both-ways true (sym f) refl);
-    }
+    let e = written (chart .links .now) (c .args .link) (c .from .result) (c .from-2 .result) (lift-value (c .args .price)) (c .with-price-record .result) (c .from .ensures) (c .from-2 .ensures) (c .with-price-record .ensures) in
+    ap (λ (ks : List LinkRecord). records-mean (chart .start) (chart .goal) (place-records chart) (take (chart .«link_count») ks)) e
+    ∙ priced-after (chart .start) (chart .goal) (place-records chart) (chart .links .now) (chart .«link_count») (c .args .link) (chart .«link_room») (c .args .price) (c .pre) (chart .ruled)
