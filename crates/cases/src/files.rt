@@ -16,7 +16,7 @@ use chart_file::trailer::TrailerPartialEq as _;
 use std::test::*;
 
 // Three places, two remark bytes before them: links 0 to 1, 1 to 2 and 0 to 2, as charts/three-places.txt has them.
-const CHART: [u8; 90] = [
+pub const CHART: [u8; 90] = [
     b'h',
     b'i',
     0,

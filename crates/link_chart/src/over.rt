@@ -12,6 +12,7 @@ use chart_file::PlaceRecord;
 
 // The first records of each memory are the chart's. While no file was read, no record is: the chart has then one
 // place and no links.
+#[derive(Drop)]
 pub struct LinkChart<'a> {
     pub(crate) places: &'a mut [PlaceRecord],
     pub(crate) links: &'a mut [LinkRecord],
