@@ -1,0 +1,8 @@
+mod Columns
+mod Heaps
+mod Ranked
+mod Slots
+mod Links
+mod Pigeons
+mod Sifts
+mod Inserts

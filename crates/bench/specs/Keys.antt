@@ -1,0 +1,22 @@
+-- Keys as the definitions have them, and their order.
+use mathlib.Core.Bool.{Bool}
+use Prim.Native.Nat.{ℕ}
+use Rattle.rows.specs.Rows.{Price, closed}
+use Rattle.rows.specs.Keys.{Key as Worth, before}
+use Rattle.rows.proofs.Keys.{before-chain, before-one-way}
+use Rattle.bench.specs.declared.key.Key.{Key}
+use Rattle.bench.specs.Order.{Weak-order}
+
+-- the key that a pair of prices stands for, where v gives the price that a value stands for
+abbrev pub key-of : {P : Type 0} → (P → Price) → Key P → Worth
+key-of v k = record { whole = v (k .whole); own = v (k .own) }
+
+-- place p under key a comes before place q under key b
+abbrev pub key-before : {P : Type 0} → (P → Price) → Key P → ℕ → Key P → ℕ → Bool
+key-before v a p b q = before (key-of v a) p (key-of v b) q
+
+pub key-ordered : {P : Type 0} → (v : P → Price) → Weak-order (key-before v)
+key-ordered v = record {
+  one-way = λ a b p q h. before-one-way (key-of v a) (key-of v b) p q h;
+  chain = λ a b c p q r h k. before-chain (key-of v a) (key-of v b) (key-of v c) p q r h k;
+}

@@ -1,0 +1,6 @@
+pub mod Order
+pub mod Keys
+pub mod Heap
+pub mod Records
+pub mod Queue
+pub mod Sorted

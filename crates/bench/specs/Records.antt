@@ -1,0 +1,34 @@
+-- The records by their columns.
+use mathlib.Core.Path.{_≡_}
+use mathlib.Core.List.{List, map}
+use Prim.Native.Nat.{ℕ}
+use lib.ListN.{getD}
+use Rattle.bench.specs.declared.record.Record.{Record}
+
+-- the slots of the queue, each with the number of a place
+abbrev pub slots : {P K : Type 0} → List (Record P K) → List ℕ
+slots rs = map (λ r. r .slot) rs
+
+-- the indexes of the places, each the number of a slot
+abbrev pub indexes : {P K : Type 0} → List (Record P K) → List ℕ
+indexes rs = map (λ r. r .index) rs
+
+-- the keys of the places
+abbrev pub keys : {P K : Type 0} → List (Record P K) → List K
+keys rs = map (λ r. r .key) rs
+
+-- the standings of the places with their lookaheads
+abbrev pub prices : {P K : Type 0} → List (Record P K) → List (P × P)
+prices rs = map (λ r. (r .standing, r .lookahead)) rs
+
+-- the place that slot k names
+abbrev pub in-slot : {P K : Type 0} → List (Record P K) → ℕ → ℕ
+in-slot rs k = getD (slots rs) k 0
+
+-- the slot that the index of place p names
+abbrev pub index-of : {P K : Type 0} → List (Record P K) → ℕ → ℕ
+index-of rs p = getD (indexes rs) p 0
+
+-- every standing, lookahead and key is as it was; slots and indexes are free
+abbrev pub Kept : {P K : Type 0} → List (Record P K) → List (Record P K) → Type 0
+Kept rs ss = (keys ss ≡ keys rs) × (prices ss ≡ prices rs)
