@@ -6,3 +6,4 @@ mod Links
 mod Pigeons
 mod Sifts
 mod Inserts
+pub mod Benches

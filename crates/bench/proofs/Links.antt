@@ -24,7 +24,7 @@ module _ {P K : Type 0} (rs : List (Record P K)) where
   names n k h l = let w = h .within in let s = h .small in (omega arith, omega arith, h .named k l)
 
   pub unmoved : (n : ℕ) → Linked rs n → Permuted rs rs n
-  unmoved n h = record { linked = h; kept = (refl, refl); same = record { into = λ p q. q; out = λ p q. q } }
+  unmoved n h = record { linked = h; kept = (refl, refl, refl); same = record { into = λ p q. q; out = λ p q. q } }
 
   -- a queued place is one of the records, and one that a chart may have
   pub queued-within : (n p : ℕ) → Linked rs n → Queued rs n p → p < length rs
@@ -146,7 +146,7 @@ module _ {P K : Type 0} (rs ss : List (Record P K)) where
 -- one change after another
 module _ {P K : Type 0} (rs ss ts : List (Record P K)) where
   pub kept-again : Kept rs ss → Kept ss ts → Kept rs ts
-  kept-again h k = (k .0 ∙ h .0, k .1 ∙ h .1)
+  kept-again h k = (k .0 ∙ h .0, k .1 ∙ h .1, k .2 ∙ h .2)
 
   pub same-again : (n : ℕ) → Same-places rs ss n → Same-places ss ts n → Same-places rs ts n
   same-again n h k = record { into = λ p q. k .into p (h .into p q); out = λ p q. h .out p (k .out p q) }
@@ -162,7 +162,7 @@ module _ {P K : Type 0} (rs ss ts : List (Record P K)) where
 
   -- another key, and then another order
   pub rekeyed-kept : (p : ℕ) (key : K) → Rekeyed rs ss p key → Kept ss ts → Rekeyed rs ts p key
-  rekeyed-kept p key h k = (k .0 ∙ h .0, k .1 ∙ h .1)
+  rekeyed-kept p key h k = (k .0 ∙ h .0, k .1 ∙ h .1, k .2 ∙ h .2)
 
 -- the writes of an exchange: two slots, then two indexes
 module _ {P K : Type 0} (r0 r1 r2 r3 r4 : List (Record P K)) (a b p q : ℕ) (ep : p ≡ in-slot r0 a) (eq : q ≡ in-slot r0 b) where

@@ -62,11 +62,6 @@ module _ {P K : Type 0} (before : K → ℕ → K → ℕ → Bool) (o : Weak-or
     sinks-rest c n t best gap under = heaps.closes (ahead before (keys rs)) (in-slot rs) j n gap under
         (λ k a l. ranks before o (keys rs) .chain _ _ _ (sym t) (best k a l))
 
-  -- no queued place comes before the place in the first slot
-  pub top-first : (rs : List (Record P K)) (n : ℕ) → In-order before rs n → (q : ℕ) → Queued rs n q → ahead before (keys rs) q (in-slot rs 0) ≡ false
-  top-first rs n h q is = ap (λ m. ahead before (keys rs) m (in-slot rs 0)) (sym (is .1))
-      ∙ heaps.top (ahead before (keys rs)) (ranks before o (keys rs)) (in-slot rs) n h (index-of rs q) (index-of rs q) (omega arith) (is .0)
-
   module _ (rs ss : List (Record P K)) (n : ℕ) where
     -- one more slot at the end
     pub appends : ((k : ℕ) → (k ≡ n → ⊥) → in-slot ss k ≡ in-slot rs k) → keys ss ≡ keys rs → In-order before rs n → Gap-at before ss n (n + 1)
@@ -84,10 +79,6 @@ module _ {P K : Type 0} (before : K → ℕ → K → ℕ → Bool) (o : Weak-or
           (heaps.agrees (ahead before (keys rs)) (in-slot rs) (in-slot ss) (n + 1) n (omega arith) (λ k r. s .2 k (omega arith) (omega arith)) h)
 
     module _ (es : slots ss ≡ slots rs) where
-      -- what the order does not read
-      pub order-same : keys ss ≡ keys rs → In-order before rs n → In-order before ss n
-      order-same ek h = λ i k a l. (λ m. ahead before (ek m) (getD (es m) k 0) (getD (es m) i 0)) ∙ h i k a l
-
       -- another key for place p
       module _ (p : ℕ) (key : K) (ek : keys ss ≡ set (keys rs) p key) (linked : Linked rs n) where
         same : (k : ℕ) → in-slot ss k ≡ in-slot rs k

@@ -15,8 +15,11 @@ key-of v k = record { whole = v (k .whole); own = v (k .own) }
 abbrev pub key-before : {P : Type 0} → (P → Price) → Key P → ℕ → Key P → ℕ → Bool
 key-before v a p b q = before (key-of v a) p (key-of v b) q
 
+pub ordered : Weak-order before
+ordered = record { one-way = before-one-way; chain = before-chain }
+
 pub key-ordered : {P : Type 0} → (v : P → Price) → Weak-order (key-before v)
 key-ordered v = record {
-  one-way = λ a b p q h. before-one-way (key-of v a) (key-of v b) p q h;
-  chain = λ a b c p q r h k. before-chain (key-of v a) (key-of v b) (key-of v c) p q r h k;
+  one-way = λ a b p q h. ordered .one-way (key-of v a) (key-of v b) p q h;
+  chain = λ a b c p q r h k. ordered .chain (key-of v a) (key-of v b) (key-of v c) p q r h k;
 }

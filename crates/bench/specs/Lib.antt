@@ -4,3 +4,4 @@ pub mod Heap
 pub mod Records
 pub mod Queue
 pub mod Sorted
+pub mod Contents

@@ -4,7 +4,7 @@ use mathlib.Core.List.{List}
 use Prim.Native.Nat.{ℕ, _+_, _<_, _≤_}
 use lib.ListN.{length, set}
 use Rattle.bench.specs.declared.record.Record.{Record}
-use Rattle.bench.specs.Records.{Kept, in-slot, index-of, keys, prices}
+use Rattle.bench.specs.Records.{Kept, in-slot, index-of, keys, lookaheads, standings}
 
 -- slot k is there, and names one of the records
 abbrev pub Names : {P K : Type 0} → List (Record P K) → ℕ → Type 0
@@ -61,4 +61,4 @@ pub record Removed {P K : Type 0} (rs ss : List (Record P K)) (n p : ℕ) : Type
 
 -- place p has another key, and every other key and all standings and lookaheads are as they were
 abbrev pub Rekeyed : {P K : Type 0} → List (Record P K) → List (Record P K) → ℕ → K → Type 0
-Rekeyed rs ss p key = (keys ss ≡ set (keys rs) p key) × (prices ss ≡ prices rs)
+Rekeyed rs ss p key = (keys ss ≡ set (keys rs) p key) × (standings ss ≡ standings rs) × (lookaheads ss ≡ lookaheads rs)

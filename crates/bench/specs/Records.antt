@@ -17,9 +17,13 @@ indexes rs = map (λ r. r .index) rs
 abbrev pub keys : {P K : Type 0} → List (Record P K) → List K
 keys rs = map (λ r. r .key) rs
 
--- the standings of the places with their lookaheads
-abbrev pub prices : {P K : Type 0} → List (Record P K) → List (P × P)
-prices rs = map (λ r. (r .standing, r .lookahead)) rs
+-- the standings of the places
+abbrev pub standings : {P K : Type 0} → List (Record P K) → List P
+standings rs = map (λ r. r .standing) rs
+
+-- the lookaheads of the places
+abbrev pub lookaheads : {P K : Type 0} → List (Record P K) → List P
+lookaheads rs = map (λ r. r .lookahead) rs
 
 -- the place that slot k names
 abbrev pub in-slot : {P K : Type 0} → List (Record P K) → ℕ → ℕ
@@ -31,4 +35,4 @@ index-of rs p = getD (indexes rs) p 0
 
 -- every standing, lookahead and key is as it was; slots and indexes are free
 abbrev pub Kept : {P K : Type 0} → List (Record P K) → List (Record P K) → Type 0
-Kept rs ss = (keys ss ≡ keys rs) × (prices ss ≡ prices rs)
+Kept rs ss = (keys ss ≡ keys rs) × (standings ss ≡ standings rs) × (lookaheads ss ≡ lookaheads rs)

@@ -3,7 +3,7 @@ ghost use mathlib.Core.Path.{_≡_};
 ghost use mathlib.Core.Bool.{Bool};
 ghost use Prim.Native.Nat.{ℕ};
 ghost use Rattle.bench.specs.Order.{Weak-order};
-ghost use Rattle.rows.specs.Keys.{key-less as smaller-key};
+ghost use Rattle.rows.specs.Keys.{key-less};
 ghost use Rattle.bench.specs.Keys.{key-before, key-of, key-ordered};
 use crate::key::Key;
 use price::PriceKind;
@@ -27,25 +27,27 @@ pub impl<P: PriceKind> HeapKey for Key<P> as KeyOrder {
     ghost ordered = { key-ordered (P·PriceKind .value) };
 
     fn comes_before(self, place: u16, other: Key<P>, other_place: u16) -> bool {
-        if key_less(self, other) {
+        if self.below(other) {
             return true;
         }
-        if key_less(other, self) {
+        if other.below(self) {
             return false;
         }
         place < other_place
     }
 }
 
-// Is a key smaller than another? The whole prices are compared first.
-pub fn key_less<P: PriceKind>(a: Key<P>, b: Key<P>) -> bool
-    ensures { λ r. ⌜ r ≡ smaller-key (key-of (P·PriceKind .value) a) (key-of (P·PriceKind .value) b) ⌝ }
-{
-    if a.whole.below(b.whole) {
-        return true;
+impl<P: PriceKind> Key<P> {
+    // Is this key smaller? The whole prices are compared first.
+    pub fn below(self, other: Key<P>) -> bool
+        ensures { λ r. ⌜ r ≡ key-less (key-of (P·PriceKind .value) self) (key-of (P·PriceKind .value) other) ⌝ }
+    {
+        if self.whole.below(other.whole) {
+            return true;
+        }
+        if other.whole.below(self.whole) {
+            return false;
+        }
+        self.own.below(other.own)
     }
-    if b.whole.below(a.whole) {
-        return false;
-    }
-    a.own.below(b.own)
 }

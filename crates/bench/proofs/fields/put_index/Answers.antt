@@ -11,5 +11,5 @@ returns g c =
     record {
       slots = map-set-same (λ r. r .slot) rs i _ d refl;
       indexes = map-set (λ r. r .index) rs i _;
-      kept = (map-set-same (λ r. r .key) rs i _ d refl, map-set-same (λ r. (r .standing, r .lookahead)) rs i _ d refl);
+      kept = (map-set-same (λ r. r .key) rs i _ d refl, map-set-same (λ r. r .standing) rs i _ d refl, map-set-same (λ r. r .lookahead) rs i _ d refl);
     }

@@ -1,0 +1,15 @@
+use mathlib.Core.Path.{refl}
+use Rattle.std.proofs.shelf.Lists.{map-set}
+use lib.Seq.{map-set-same}
+use Rattle.bench.proofs.fields.put_standing.Needs as need
+
+pub returns : need.returns
+returns g c =
+    let rs = c .args .records .now in
+    let i = c .args .p in
+    let d = c .index-records-p .result in
+    record {
+      links = (map-set-same (λ r. r .slot) rs i _ d refl, map-set-same (λ r. r .index) rs i _ d refl);
+      written = map-set (λ r. r .standing) rs i _;
+      rest = (map-set-same (λ r. r .lookahead) rs i _ d refl, map-set-same (λ r. r .key) rs i _ d refl);
+    }
