@@ -6,4 +6,4 @@ mod Links
 mod Pigeons
 mod Sifts
 mod Inserts
-pub mod Benches
+mod Tops

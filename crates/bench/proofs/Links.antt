@@ -9,7 +9,7 @@ use Rattle.std.proofs.shelf.Lists.{length-map, length-set, getD-set-same, getD-
 use Rattle.std.proofs.shelf.Tests.{cases-eq}
 use Rattle.std.proofs.shelf.Edits.{Swapped, exchanged-is, swapped-from-exchanged}
 use Rattle.bench.specs.declared.record.Record.{Record}
-use Rattle.bench.specs.Records.{Kept, in-slot, index-of, indexes, slots}
+use Rattle.bench.specs.Records.{Exchanged, Kept, in-slot, index-of, indexes, slots}
 use Rattle.bench.specs.Queue.{Added, Linked, Names, Permuted, Queued, Rekeyed, Removed, Same-places}
 use Rattle.bench.proofs.Slots as by-number
 
@@ -41,17 +41,21 @@ module _ {P K : Type 0} (rs ss : List (Record P K)) where
   long : Kept rs ss → length ss ≡ length rs
   long h = sym (length-map ss _) ∙ ap length (h .0) ∙ length-map rs _
 
-  -- two slots exchanged, and the indexes of the two places with them
-  module _ (a b : ℕ) (es : slots ss ≡ set (set (slots rs) a (in-slot rs b)) b (in-slot rs a)) where
-    pub swapped : a < length rs → b < length rs → Swapped (in-slot rs) (in-slot ss) a b
-    swapped la lb =
+  -- two used slots exchanged, and the indexes of the two places with them
+  module _ (a b : ℕ) (x : Exchanged rs ss a b) (n : ℕ) (h : Linked rs n) (la : a < n) (lb : b < n) where
+    pub swapped : Swapped (in-slot rs) (in-slot ss) a b
+    swapped =
         let l = length-map rs (λ r. r .slot) in
+        let w = h .within in
         let wa : a < length (slots rs) = omega arith in
         let wb : b < length (slots rs) = omega arith in
-        swapped-from-exchanged (slots rs) (slots ss) a b 0 wa wb (es ∙ exchanged-is (slots rs) a b 0 wa wb)
+        swapped-from-exchanged (slots rs) (slots ss) a b 0 wa wb (x .slots-are ∙ exchanged-is (slots rs) a b 0 wa wb)
 
-    pub swap-permutes : indexes ss ≡ set (set (indexes rs) (in-slot rs a) b) (in-slot rs b) a → Kept rs ss → (n : ℕ) → Linked rs n → a < n → b < n → Permuted rs ss n
-    swap-permutes ei kept n h la lb =
+    pub swap-permutes : Permuted rs ss n
+    swap-permutes =
+        let ei = x .indexes-are in
+        let kept = x .kept in
+        let s = swapped in
         let p = in-slot rs a in
         let q = in-slot rs b in
         let w = h .within in
@@ -59,7 +63,6 @@ module _ {P K : Type 0} (rs ss : List (Record P K)) where
         let lp : p < length (indexes rs) = omega (arith, h .named a la) in
         let lq : q < length (indexes rs) = omega (arith, h .named b lb) in
         let lq′ : q < length (set (indexes rs) p b) = rw length-set lq in
-        let s = swapped (omega arith) (omega arith) in
         let jb : index-of ss q ≡ a = ap (λ xs. getD xs q 0) ei ∙ getD-set-same (set (indexes rs) p b) q a 0 lq′ in
         let ja : index-of ss p ≡ b = ⊎-elim
         (λ (e : p ≡ q). ap (index-of ss) e ∙ jb ∙ sym (h .back a la) ∙ ap (index-of rs) e ∙ h .back b lb)
@@ -163,14 +166,3 @@ module _ {P K : Type 0} (rs ss ts : List (Record P K)) where
   -- another key, and then another order
   pub rekeyed-kept : (p : ℕ) (key : K) → Rekeyed rs ss p key → Kept ss ts → Rekeyed rs ts p key
   rekeyed-kept p key h k = (k .0 ∙ h .0, k .1 ∙ h .1, k .2 ∙ h .2)
-
--- the writes of an exchange: two slots, then two indexes
-module _ {P K : Type 0} (r0 r1 r2 r3 r4 : List (Record P K)) (a b p q : ℕ) (ep : p ≡ in-slot r0 a) (eq : q ≡ in-slot r0 b) where
-  pub slots-written : slots r1 ≡ set (slots r0) a q → slots r2 ≡ set (slots r1) b p → slots r3 ≡ slots r2 → slots r4 ≡ slots r3 → slots r4 ≡ set (set (slots r0) a (in-slot r0 b)) b (in-slot r0 a)
-  slots-written e1 e2 e3 e4 = e4 ∙ e3 ∙ e2 ∙ ap (λ xs. set xs b p) e1 ∙ (λ i. set (set (slots r0) a (eq i)) b (ep i))
-
-  pub indexes-written : indexes r1 ≡ indexes r0 → indexes r2 ≡ indexes r1 → indexes r3 ≡ set (indexes r2) p b → indexes r4 ≡ set (indexes r3) q a → indexes r4 ≡ set (set (indexes r0) (in-slot r0 a) b) (in-slot r0 b) a
-  indexes-written e1 e2 e3 e4 = e4 ∙ ap (λ xs. set xs q a) (e3 ∙ ap (λ xs. set xs p b) (e2 ∙ e1)) ∙ (λ i. set (set (indexes r0) (ep i) b) (eq i) a)
-
-  pub kept-throughout : Kept r0 r1 → Kept r1 r2 → Kept r2 r3 → Kept r3 r4 → Kept r0 r4
-  kept-throughout h1 h2 h3 h4 = kept-again r0 r2 r4 (kept-again r0 r1 r2 h1 h2) (kept-again r2 r3 r4 h3 h4)

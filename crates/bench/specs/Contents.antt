@@ -1,39 +1,29 @@
 -- What a bench holds, as a planner speaks of it. Free besides: which slot a queued place is in, the unused slots,
 -- and the indexes of places that are not queued.
-use mathlib.Core.Path.{_≡_}
-use mathlib.Core.Bool.{Bool, false, _&&_}
-use mathlib.Core.List.{List, map}
+use mathlib.Core.Bool.{Bool, _&&_}
+use mathlib.Core.List.{List}
 use Prim.Native.Nat.{ℕ}
 use lib.Dec.{ltb}
-use lib.ListN.{getD, length}
-use Rattle.rows.specs.Rows.{Price, closed}
-use Rattle.rows.specs.Keys.{Key, before}
+use lib.ListN.{length}
+use Rattle.rows.specs.Rows.{Price}
+use Rattle.rows.specs.Keys.{Key}
 use Rattle.bench.specs.declared.bench.Bench.{Bench}
-use Rattle.bench.specs.Heap.{Ordered}
-use Rattle.bench.specs.Keys.{key-of}
 use Rattle.bench.specs.Queue.{Queued}
-use Rattle.bench.specs.Records.{in-slot}
-use Rattle.bench.specs.Sorted.{ahead}
+use Rattle.bench.specs.Worths.{Least-in, Others, Sorted-in, keys-in, lookaheads-in, standings-in}
 
 -- the number of records, and so of places that the bench has room for
 abbrev pub room : {P : Type 0} → Bench P → ℕ
 room b = length (b .records .now)
 
--- standing (published: g), of each place; v gives the price that a value stands for
+-- of each place, where v gives the price that a value stands for: its standing, its lookahead and its key
 abbrev pub standings : {P : Type 0} → (P → Price) → Bench P → List Price
-standings v b = map (λ r. v (r .standing)) (b .records .now)
+standings v b = standings-in v (b .records .now)
 
--- lookahead (published: rhs), of each place
 abbrev pub lookaheads : {P : Type 0} → (P → Price) → Bench P → List Price
-lookaheads v b = map (λ r. v (r .lookahead)) (b .records .now)
+lookaheads v b = lookaheads-in v (b .records .now)
 
--- the key that is kept of each place, queued or not
 abbrev pub keys : {P : Type 0} → (P → Price) → Bench P → List Key
-keys v b = map (λ r. key-of v (r .key)) (b .records .now)
-
--- the key of place p; past the memory, where no place is queued, closed prices stand for one
-abbrev pub key-at : {P : Type 0} → (P → Price) → Bench P → ℕ → Key
-key-at v b p = getD (keys v b) p (record { whole = closed; own = closed })
+keys v b = keys-in v (b .records .now)
 
 -- place p is in the queue
 abbrev pub Waits : {P : Type 0} → Bench P → ℕ → Type 0
@@ -43,18 +33,18 @@ Waits b p = Queued (b .records .now) (b .used) p
 abbrev pub can-wait : {P : Type 0} → Bench P → ℕ → Bool
 can-wait b p = ltb p (room b) && ltb p 4096
 
--- the same places are queued, but perhaps for p
-abbrev pub Same-but : {P : Type 0} → Bench P → Bench P → ℕ → Type 0
-Same-but b d p = (q : ℕ) → (q ≡ p → ⊥) → (Waits b q → Waits d q) × (Waits d q → Waits b q)
-
 -- the same places are queued
 abbrev pub Same-queue : {P : Type 0} → Bench P → Bench P → Type 0
 Same-queue b d = (q : ℕ) → (Waits b q → Waits d q) × (Waits d q → Waits b q)
 
--- the queue is in heap order: no place comes before the one in the parent's slot
+-- the same places are queued, but perhaps for p
+abbrev pub Same-but : {P : Type 0} → Bench P → Bench P → ℕ → Type 0
+Same-but b d p = Others (b .records .now) (b .used) (d .records .now) (d .used) p
+
+-- the queue is in heap order: each call keeps it, and in it the top is the least
 abbrev pub Sorted : {P : Type 0} → (P → Price) → Bench P → Type 0
-Sorted v b = Ordered (ahead before (keys v b)) (in-slot (b .records .now)) (b .used)
+Sorted v b = Sorted-in v (b .records .now) (b .used)
 
 -- no queued place comes before place p
 abbrev pub Least : {P : Type 0} → (P → Price) → Bench P → ℕ → Type 0
-Least v b p = (q : ℕ) → Waits b q → before (key-at v b q) q (key-at v b p) p ≡ false
+Least v b p = Least-in v (b .records .now) (b .used) p

@@ -2,7 +2,7 @@
 use mathlib.Core.Path.{_≡_}
 use mathlib.Core.List.{List, map}
 use Prim.Native.Nat.{ℕ}
-use lib.ListN.{getD}
+use lib.ListN.{getD, set}
 use Rattle.bench.specs.declared.record.Record.{Record}
 
 -- the slots of the queue, each with the number of a place
@@ -36,3 +36,9 @@ index-of rs p = getD (indexes rs) p 0
 -- every standing, lookahead and key is as it was; slots and indexes are free
 abbrev pub Kept : {P K : Type 0} → List (Record P K) → List (Record P K) → Type 0
 Kept rs ss = (keys ss ≡ keys rs) × (standings ss ≡ standings rs) × (lookaheads ss ≡ lookaheads rs)
+
+-- the places in slots a and b are exchanged, with their indexes, and all else is as it was
+pub record Exchanged {P K : Type 0} (rs ss : List (Record P K)) (a b : ℕ) : Type 0 where
+  pub slots-are : slots ss ≡ set (set (slots rs) a (in-slot rs b)) b (in-slot rs a)
+  pub indexes-are : indexes ss ≡ set (set (indexes rs) (in-slot rs a) b) (in-slot rs b) a
+  pub kept : Kept rs ss

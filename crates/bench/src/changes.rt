@@ -11,10 +11,8 @@ ghost use Rattle.bench.specs.Contents.{Same-but, Same-queue, Sorted, Waits, ca
 ghost use Rattle.bench.specs.Keys.{key-of};
 use crate::bench::Bench;
 use crate::bench::MOST_PLACES;
-use crate::fields;
-use crate::heap;
 use crate::key::Key;
-use crate::order::KeyOrder;
+use crate::queue;
 use crate::record::Record;
 use price::PriceKind;
 
@@ -38,7 +36,7 @@ impl<'a, P: PriceKind> Bench<'a, P> {
         ensures answer { λ r. ⌜ r ≡ ltb place (room (now (self .entry))) ⌝ }
         ensures refused { λ r. ⌜ (r ≡ false → now (self .exit) ≡ now (self .entry)) ⌝ }
         ensures lender { λ _. ⌜ name (now (self .exit) .records) ≡ name (now (self .entry) .records) ⌝ ∗ ⌜ now (self .exit) .number ≡ now (self .entry) .number ⌝ ∗ ⌜ room (now (self .exit)) ≡ room (now (self .entry)) ⌝ }
-        ensures written { λ _. ⌜ standings (P·PriceKind .value) (now (self .exit)) ≡ set (standings (P·PriceKind .value) (now (self .entry))) place (P·PriceKind .value standing) ⌝ }
+        ensures written { λ r. ⌜ (r ≡ true → standings (P·PriceKind .value) (now (self .exit)) ≡ set (standings (P·PriceKind .value) (now (self .entry))) place (P·PriceKind .value standing)) ⌝ }
         ensures rest { λ _. ⌜ lookaheads (P·PriceKind .value) (now (self .exit)) ≡ lookaheads (P·PriceKind .value) (now (self .entry)) ⌝ ∗ ⌜ kept-keys (P·PriceKind .value) (now (self .exit)) ≡ kept-keys (P·PriceKind .value) (now (self .entry)) ⌝ }
         ensures queue { λ _. ⌜ Same-queue (now (self .entry)) (now (self .exit)) ⌝ }
         ensures order { λ _. ⌜ (Sorted (P·PriceKind .value) (now (self .entry)) → Sorted (P·PriceKind .value) (now (self .exit))) ⌝ }
@@ -46,12 +44,8 @@ impl<'a, P: PriceKind> Bench<'a, P> {
         if place as usize >= self.records.len() {
             return false;
         }
-        let Bench {
-            records,
-            used: _,
-            number: _,
-        } = self;
-        fields::put_standing(records, place as usize, standing);
+        let Bench { records, .. } = self;
+        queue::put_standing(records, place as usize, standing);
         true
     }
 
@@ -60,7 +54,7 @@ impl<'a, P: PriceKind> Bench<'a, P> {
         ensures answer { λ r. ⌜ r ≡ ltb place (room (now (self .entry))) ⌝ }
         ensures refused { λ r. ⌜ (r ≡ false → now (self .exit) ≡ now (self .entry)) ⌝ }
         ensures lender { λ _. ⌜ name (now (self .exit) .records) ≡ name (now (self .entry) .records) ⌝ ∗ ⌜ now (self .exit) .number ≡ now (self .entry) .number ⌝ ∗ ⌜ room (now (self .exit)) ≡ room (now (self .entry)) ⌝ }
-        ensures written { λ _. ⌜ lookaheads (P·PriceKind .value) (now (self .exit)) ≡ set (lookaheads (P·PriceKind .value) (now (self .entry))) place (P·PriceKind .value lookahead) ⌝ }
+        ensures written { λ r. ⌜ (r ≡ true → lookaheads (P·PriceKind .value) (now (self .exit)) ≡ set (lookaheads (P·PriceKind .value) (now (self .entry))) place (P·PriceKind .value lookahead)) ⌝ }
         ensures rest { λ _. ⌜ standings (P·PriceKind .value) (now (self .exit)) ≡ standings (P·PriceKind .value) (now (self .entry)) ⌝ ∗ ⌜ kept-keys (P·PriceKind .value) (now (self .exit)) ≡ kept-keys (P·PriceKind .value) (now (self .entry)) ⌝ }
         ensures queue { λ _. ⌜ Same-queue (now (self .entry)) (now (self .exit)) ⌝ }
         ensures order { λ _. ⌜ (Sorted (P·PriceKind .value) (now (self .entry)) → Sorted (P·PriceKind .value) (now (self .exit))) ⌝ }
@@ -68,12 +62,8 @@ impl<'a, P: PriceKind> Bench<'a, P> {
         if place as usize >= self.records.len() {
             return false;
         }
-        let Bench {
-            records,
-            used: _,
-            number: _,
-        } = self;
-        fields::put_lookahead(records, place as usize, lookahead);
+        let Bench { records, .. } = self;
+        queue::put_lookahead(records, place as usize, lookahead);
         true
     }
 }
@@ -100,18 +90,8 @@ impl<'a, P: PriceKind> Bench<'a, P> {
         if !self.can_queue(place) {
             return false;
         }
-        let queued = self.is_queued(place);
-        let Bench {
-            records,
-            used,
-            number: _,
-        } = self;
-        if queued {
-            heap::rekey(records, *used, place, key);
-            return true;
-        }
-        heap::insert(records, *used, place, key);
-        *used += 1;
+        let Bench { records, used, .. } = self;
+        *used = queue::enqueue(records, *used, place, key);
         true
     }
 
@@ -127,13 +107,8 @@ impl<'a, P: PriceKind> Bench<'a, P> {
         if !self.is_queued(place) {
             return false;
         }
-        let Bench {
-            records,
-            used,
-            number: _,
-        } = self;
-        heap::remove(records, *used - 1, place);
-        *used -= 1;
+        let Bench { records, used, .. } = self;
+        *used = queue::dequeue(records, *used, place);
         true
     }
 

@@ -3,10 +3,9 @@
 ghost use mathlib.Core.Path.{_≡_};
 ghost use Prim.Native.Nat.{ℕ, _+_, _*_, _<_, _≤_};
 ghost use lib.ListN.{length};
-ghost use Rattle.std.proofs.shelf.Edits.{Swapped};
 ghost use Rattle.bench.specs.Heap.{Child};
 ghost use Rattle.bench.specs.Queue.{Added, Linked, Names, Permuted, Queued, Rekeyed, Removed, Same-places};
-ghost use Rattle.bench.specs.Records.{Kept, in-slot, keys};
+ghost use Rattle.bench.specs.Records.{Exchanged, Kept, in-slot, keys};
 ghost use Rattle.bench.specs.Sorted.{First-of, Gap-at, In-order, Under-at, ahead};
 use crate::fields::index_of;
 use crate::fields::key_of;
@@ -29,8 +28,7 @@ fn parent(slot: usize) -> usize
 pub(crate) fn swap<P: Copy, K: Copy>(records: &mut [Record<P, K>], a: usize, b: usize)
     requires first { ⌜ Names (now records) a ⌝ }
     requires second { ⌜ Names (now records) b ⌝ }
-    ensures swapped { λ _. ⌜ Swapped (in-slot (now (records .entry))) (in-slot (now (records .exit))) a b ⌝ }
-    ensures permuted { λ _. ⌜ ((n : ℕ) → Linked (now (records .entry)) n → a < n → b < n → Permuted (now (records .entry)) (now (records .exit)) n) ⌝ }
+    ensures { λ _. ⌜ Exchanged (now (records .entry)) (now (records .exit)) a b ⌝ }
 {
     let p = slot_of(records, a);
     let q = slot_of(records, b);

@@ -6,6 +6,7 @@ mod heap;
 mod key;
 mod order;
 mod questions;
+mod queue;
 mod record;
 
 pub use bench::Bench;

@@ -7,9 +7,8 @@ ghost use Rattle.std.specs.shelf.Maps.{nth};
 ghost use Rattle.bench.specs.Contents.{Least, Sorted, Waits, keys as kept-keys, lookaheads, room, standings};
 ghost use Rattle.bench.specs.Keys.{key-of};
 use crate::bench::Bench;
-use crate::fields;
 use crate::key::Key;
-use crate::record::Record;
+use crate::queue;
 use price::PriceKind;
 
 impl<'a, P: PriceKind> Bench<'a, P> {
@@ -27,41 +26,25 @@ impl<'a, P: PriceKind> Bench<'a, P> {
         self.records.len()
     }
 
-    // What the bench holds of a place.
-    fn record(&self, place: u16) -> Option<&Record<P>>
-        ensures { λ r. ⌜ mapped now r ≡ nth (now (now (self .entry) .records)) place ⌝ }
-    {
-        self.records.get(place as usize)
-    }
-
     // The standing of a place, or none outside the memory.
     pub fn standing(&self, place: u16) -> Option<P>
         ensures { λ r. ⌜ mapped (P·PriceKind .value) r ≡ nth (standings (P·PriceKind .value) (now (self .entry))) place ⌝ }
     {
-        match self.record(place) {
-            Some(record) => Some(record.standing),
-            None => None,
-        }
+        queue::standing_of(self.records, place as usize)
     }
 
     // The lookahead of a place, or none outside the memory.
     pub fn lookahead(&self, place: u16) -> Option<P>
         ensures { λ r. ⌜ mapped (P·PriceKind .value) r ≡ nth (lookaheads (P·PriceKind .value) (now (self .entry))) place ⌝ }
     {
-        match self.record(place) {
-            Some(record) => Some(record.lookahead),
-            None => None,
-        }
+        queue::lookahead_of(self.records, place as usize)
     }
 
     // The key of a place, queued or not, or none outside the memory.
     pub fn key(&self, place: u16) -> Option<Key<P>>
         ensures { λ r. ⌜ mapped (key-of (P·PriceKind .value)) r ≡ nth (kept-keys (P·PriceKind .value) (now (self .entry))) place ⌝ }
     {
-        match self.record(place) {
-            Some(record) => Some(record.key),
-            None => None,
-        }
+        queue::key_of(self.records, place as usize)
     }
 }
 
@@ -70,14 +53,7 @@ impl<'a, P: PriceKind> Bench<'a, P> {
     pub fn is_queued(&self, place: u16) -> bool
         ensures { λ r. ⌜ (r ≡ true → Waits (now (self .entry)) place) ⌝ ∗ ⌜ (r ≡ false → Waits (now (self .entry)) place → ⊥) ⌝ }
     {
-        if place as usize >= self.records.len() {
-            return false;
-        }
-        let slot = fields::index_of(self.records, place as usize) as usize;
-        if slot >= self.used {
-            return false;
-        }
-        fields::slot_of(self.records, slot) == place
+        queue::is_queued(self.records, self.used, place)
     }
 
     // The place in the queue that comes first, or none where the queue is empty.
@@ -85,9 +61,6 @@ impl<'a, P: PriceKind> Bench<'a, P> {
         ensures place { λ r. ⌜ BySome r ((q : ℕ) → Waits (now (self .entry)) q → ⊥) (λ p. Waits (now (self .entry)) p × (p < room (now (self .entry))) × (p < 4096)) ⌝ }
         ensures least { λ r. ⌜ (Sorted (P·PriceKind .value) (now (self .entry)) → BySome r (Unit {0}) (λ p. Least (P·PriceKind .value) (now (self .entry)) p)) ⌝ }
     {
-        if self.used == 0 {
-            return None;
-        }
-        Some(fields::slot_of(self.records, 0))
+        queue::first(self.records, self.used)
     }
 }

@@ -1,8 +1,7 @@
 use Prim.Native.Nat.{_+_}
 use native.Mathlib.Omega.{arith}
-use Rattle.bench.specs.Queue.{Permuted}
 use Rattle.bench.specs.Records.{in-slot}
-use Rattle.bench.proofs.Links.{fewer-linked, kept-again, last-goes, names, removed-permuted}
+use Rattle.bench.proofs.Links.{fewer-linked, kept-again, last-goes, names, removed-permuted, swap-permutes, swapped}
 use Rattle.bench.proofs.Sifts.{leaves, leaves-last}
 use Rattle.bench.proofs.heap.remove_at.Needs as need
 
@@ -15,7 +14,7 @@ swap-requires g c κs =
 pub restore-requires : need.restore-requires
 restore-requires g c κs =
     let n = c .args .left in
-    let m = c .swap .ensures .permuted (n + 1) (c .pre .linked) (omega arith) (omega arith) in
+    let m = swap-permutes (c .args .records .now) (c .swap .last .records) (c .args .k) n (c .swap .ensures) (n + 1) (c .pre .linked) (omega arith) (omega arith) in
     record { linked = fewer-linked (c .swap .last .records) n (n + 1) (m .linked) (omega arith); slot = c .if-k-left .taken }
 
 pub returns-then-k-left : need.returns-then-k-left
@@ -25,13 +24,14 @@ returns-then-k-left g c =
     let ts = c .restore .last .records in
     let n = c .args .left in
     let k = c .args .k in
-    let s = c .swap .ensures .swapped in
-    let m : Permuted rs ss (n + 1) = c .swap .ensures .permuted (n + 1) (c .pre .linked) (omega arith) (omega arith) in
+    let x = c .swap .ensures in
+    let s = swapped rs ss k n x (n + 1) (c .pre .linked) (omega arith) (omega arith) in
+    let m = swap-permutes rs ss k n x (n + 1) (c .pre .linked) (omega arith) (omega arith) in
     let r = c .restore .ensures in
     record {
       removed = removed-permuted rs ss ts n (in-slot rs k) (last-goes rs ss n (in-slot rs k) m (s .1)) (r .permuted);
-      kept = kept-again rs ss ts (m .kept) (r .permuted .kept);
-      order = λ o. r .order (leaves (g .K·HeapKey .before) (g .K·HeapKey .ordered) rs ss n k s (m .kept .0) (c .if-k-left .taken) o);
+      kept = kept-again rs ss ts (x .kept) (r .permuted .kept);
+      order = λ o. r .order (leaves (g .K·HeapKey .before) (g .K·HeapKey .ordered) rs ss n k s (x .kept .0) (c .if-k-left .taken) o);
     }
 
 pub returns-else-k-left : need.returns-else-k-left
@@ -40,10 +40,11 @@ returns-else-k-left g c =
     let ss = c .swap .last .records in
     let n = c .args .left in
     let k = c .args .k in
-    let s = c .swap .ensures .swapped in
-    let m : Permuted rs ss (n + 1) = c .swap .ensures .permuted (n + 1) (c .pre .linked) (omega arith) (omega arith) in
+    let x = c .swap .ensures in
+    let s = swapped rs ss k n x (n + 1) (c .pre .linked) (omega arith) (omega arith) in
+    let m = swap-permutes rs ss k n x (n + 1) (c .pre .linked) (omega arith) (omega arith) in
     record {
       removed = last-goes rs ss n (in-slot rs k) m (s .1);
-      kept = m .kept;
-      order = λ o. leaves-last (g .K·HeapKey .before) (g .K·HeapKey .ordered) rs ss n k s (m .kept .0) (c .if-k-left .left) o;
+      kept = x .kept;
+      order = λ o. leaves-last (g .K·HeapKey .before) (g .K·HeapKey .ordered) rs ss n k s (x .kept .0) (c .if-k-left .left) o;
     }

@@ -1,4 +1,4 @@
-use Rattle.bench.proofs.Links.{again, names}
+use Rattle.bench.proofs.Links.{again, names, swap-permutes, swapped}
 use Rattle.bench.proofs.Sifts.{sinks-leaf, sinks-rest, step-down, step-under}
 use Rattle.bench.proofs.heap.sift_down.Needs as need
 
@@ -26,13 +26,15 @@ loop-at-again g c =
     let ss = c .swap .last .records in
     let e = c .first-child-child .ensures in
     let child = c .first-child-child .result in
-    let s = c .swap .ensures .swapped in
-    let m = c .swap .ensures .permuted n (l .inv .1 .linked) (l .inv .0) (e .child .0) in (
+    let x = c .swap .ensures in
+    let h = l .inv .1 .linked in
+    let s = swapped rs ss (l .at) child x n h (l .inv .0) (e .child .0) in
+    let m = swap-permutes rs ss (l .at) child x n h (l .inv .0) (e .child .0) in (
       e .child .0,
       again (c .args .records .now) rs ss n (l .inv .1) m,
       λ gap under. let t = l .inv .2 gap under in (
-        step-down before ordered rs ss n (l .at) child (e .child .1) (e .child .0) s (m .kept .0) (e .first) (t .0),
-        step-under before ordered rs ss n (l .at) child (e .child .1) (e .child .0) s (m .kept .0) (c .if-not-comes-before .ensures tt),
+        step-down before ordered rs ss n (l .at) child (e .child .1) (e .child .0) s (x .kept .0) (e .first) (t .0),
+        step-under before ordered rs ss n (l .at) child (e .child .1) (e .child .0) s (x .kept .0) (c .if-not-comes-before .ensures tt),
       ),
     )
 

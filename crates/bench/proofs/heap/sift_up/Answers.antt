@@ -1,7 +1,7 @@
 use Prim.Native.Nat.{ℕ, _+_, _<_, _≤_}
 use native.Mathlib.Omega.{arith}
 use Rattle.bench.specs.Queue.{Linked, Names}
-use Rattle.bench.proofs.Links.{again, names}
+use Rattle.bench.proofs.Links.{again, names, swap-permutes, swapped}
 use Rattle.bench.proofs.Sifts.{rests, step-up, tops}
 use Rattle.bench.proofs.heap.sift_up.Needs as need
 
@@ -28,15 +28,15 @@ loop-at-again g c =
     let l = c .loop-at in
     let rs = l .records in
     let ss = c .swap .last .records in
+    let x = c .swap .ensures in
     let up = c .parent-up .result in
     let is = c .parent-up .ensures in
     let b = l .inv .0 in
-    let s = c .swap .ensures .swapped in
-    let n = c .args .from + 1 in
-    let kept = c .swap .ensures .permuted n (l .inv .1 n (c .pre) (omega arith) .linked) (omega arith) (omega arith) .kept .0 in (
+    let m = c .args .from + 1 in
+    let s = swapped rs ss up (l .at) x m (l .inv .1 m (c .pre) (omega arith) .linked) (omega arith) (omega arith) in (
       omega arith,
-      λ n h f. let m = l .inv .1 n h f in again (c .args .records .now) rs ss n m (c .swap .ensures .permuted n (m .linked) (omega arith) (omega arith)),
-      λ n f gap. step-up (g .K·HeapKey .before) (g .K·HeapKey .ordered) rs ss n up (l .at) is (omega arith) s kept (l .inv .2 n f gap),
+      λ n h f. let p = l .inv .1 n h f in again (c .args .records .now) rs ss n p (swap-permutes rs ss up (l .at) x n (p .linked) (omega arith) (omega arith)),
+      λ n f gap. step-up (g .K·HeapKey .before) (g .K·HeapKey .ordered) rs ss n up (l .at) is (omega arith) s (x .kept .0) (l .inv .2 n f gap),
     )
 
 pub returns-then-not-comes-before : need.returns-then-not-comes-before
