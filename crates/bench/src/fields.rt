@@ -5,11 +5,11 @@ ghost use lib.ListN.{getD, length, set};
 ghost use Rattle.std.specs.declared.option.Option.the-variants.{Some};
 ghost use Rattle.std.specs.shelf.Maps.{nth};
 ghost use Rattle.bench.specs.Queue.{Rekeyed};
-ghost use Rattle.bench.specs.Records.{Kept, in-slot, index-of as index-at, indexes as index-column, keys as key-column, lookaheads as lookahead-column, slots as slot-column, standings as standing-column};
+ghost use Rattle.bench.specs.Records.{Kept, in-slot, index-of as index-at, indexes as index-column, keys as key-column, slots as slot-column};
 use crate::record::Record;
 
 // The place that slot k names.
-pub(crate) fn slot_of<P: Copy, K: Copy>(records: &[Record<P, K>], k: usize) -> u16
+pub(crate) fn slot_of<P, K>(records: &[Record<P, K>], k: usize) -> u16
     requires { ⌜ k < length (now records) ⌝ }
     ensures { λ r. ⌜ r ≡ in-slot (now (records .entry)) k ⌝ }
 {
@@ -17,7 +17,7 @@ pub(crate) fn slot_of<P: Copy, K: Copy>(records: &[Record<P, K>], k: usize) -> u
 }
 
 // The slot that the index of place p names.
-pub(crate) fn index_of<P: Copy, K: Copy>(records: &[Record<P, K>], p: usize) -> u16
+pub(crate) fn index_of<P, K>(records: &[Record<P, K>], p: usize) -> u16
     requires { ⌜ p < length (now records) ⌝ }
     ensures { λ r. ⌜ r ≡ index-at (now (records .entry)) p ⌝ }
 {
@@ -25,14 +25,14 @@ pub(crate) fn index_of<P: Copy, K: Copy>(records: &[Record<P, K>], p: usize) -> 
 }
 
 // The key of place p.
-pub(crate) fn key_of<P: Copy, K: Copy>(records: &[Record<P, K>], p: usize) -> K
+pub(crate) fn key_of<P, K: Copy>(records: &[Record<P, K>], p: usize) -> K
     requires { ⌜ p < length (now records) ⌝ }
     ensures { λ r. ⌜ nth (key-column (now (records .entry))) p ≡ Some r ⌝ }
 {
     records[p].key
 }
 
-pub(crate) fn put_slot<P: Copy, K: Copy>(records: &mut [Record<P, K>], k: usize, place: u16)
+pub(crate) fn put_slot<P, K>(records: &mut [Record<P, K>], k: usize, place: u16)
     requires { ⌜ k < length (now records) ⌝ }
     ensures slots { λ _. ⌜ slot-column (now (records .exit)) ≡ set (slot-column (now (records .entry))) k place ⌝ }
     ensures indexes { λ _. ⌜ index-column (now (records .exit)) ≡ index-column (now (records .entry)) ⌝ }
@@ -41,7 +41,7 @@ pub(crate) fn put_slot<P: Copy, K: Copy>(records: &mut [Record<P, K>], k: usize,
     records[k].slot = place;
 }
 
-pub(crate) fn put_index<P: Copy, K: Copy>(records: &mut [Record<P, K>], p: usize, slot: u16)
+pub(crate) fn put_index<P, K>(records: &mut [Record<P, K>], p: usize, slot: u16)
     requires { ⌜ p < length (now records) ⌝ }
     ensures slots { λ _. ⌜ slot-column (now (records .exit)) ≡ slot-column (now (records .entry)) ⌝ }
     ensures indexes { λ _. ⌜ index-column (now (records .exit)) ≡ set (index-column (now (records .entry))) p slot ⌝ }
@@ -50,29 +50,11 @@ pub(crate) fn put_index<P: Copy, K: Copy>(records: &mut [Record<P, K>], p: usize
     records[p].index = slot;
 }
 
-pub(crate) fn put_key<P: Copy, K: Copy>(records: &mut [Record<P, K>], p: usize, key: K)
+pub(crate) fn put_key<P, K: Copy>(records: &mut [Record<P, K>], p: usize, key: K)
     requires { ⌜ p < length (now records) ⌝ }
     ensures slots { λ _. ⌜ slot-column (now (records .exit)) ≡ slot-column (now (records .entry)) ⌝ }
     ensures indexes { λ _. ⌜ index-column (now (records .exit)) ≡ index-column (now (records .entry)) ⌝ }
     ensures rekeyed { λ _. ⌜ Rekeyed (now (records .entry)) (now (records .exit)) p key ⌝ }
 {
     records[p].key = key;
-}
-
-pub(crate) fn put_standing<P: Copy, K: Copy>(records: &mut [Record<P, K>], p: usize, standing: P)
-    requires { ⌜ p < length (now records) ⌝ }
-    ensures links { λ _. ⌜ slot-column (now (records .exit)) ≡ slot-column (now (records .entry)) ⌝ ∗ ⌜ index-column (now (records .exit)) ≡ index-column (now (records .entry)) ⌝ }
-    ensures written { λ _. ⌜ standing-column (now (records .exit)) ≡ set (standing-column (now (records .entry))) p standing ⌝ }
-    ensures rest { λ _. ⌜ lookahead-column (now (records .exit)) ≡ lookahead-column (now (records .entry)) ⌝ ∗ ⌜ key-column (now (records .exit)) ≡ key-column (now (records .entry)) ⌝ }
-{
-    records[p].standing = standing;
-}
-
-pub(crate) fn put_lookahead<P: Copy, K: Copy>(records: &mut [Record<P, K>], p: usize, lookahead: P)
-    requires { ⌜ p < length (now records) ⌝ }
-    ensures links { λ _. ⌜ slot-column (now (records .exit)) ≡ slot-column (now (records .entry)) ⌝ ∗ ⌜ index-column (now (records .exit)) ≡ index-column (now (records .entry)) ⌝ }
-    ensures written { λ _. ⌜ lookahead-column (now (records .exit)) ≡ set (lookahead-column (now (records .entry))) p lookahead ⌝ }
-    ensures rest { λ _. ⌜ standing-column (now (records .exit)) ≡ standing-column (now (records .entry)) ⌝ ∗ ⌜ key-column (now (records .exit)) ≡ key-column (now (records .entry)) ⌝ }
-{
-    records[p].lookahead = lookahead;
 }

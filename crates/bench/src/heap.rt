@@ -25,7 +25,7 @@ fn parent(slot: usize) -> usize
 }
 
 // Exchanges the places in two slots, and their indexes with them.
-pub(crate) fn swap<P: Copy, K: Copy>(records: &mut [Record<P, K>], a: usize, b: usize)
+pub(crate) fn swap<P, K>(records: &mut [Record<P, K>], a: usize, b: usize)
     requires first { ⌜ Names (now records) a ⌝ }
     requires second { ⌜ Names (now records) b ⌝ }
     ensures { λ _. ⌜ Exchanged (now (records .entry)) (now (records .exit)) a b ⌝ }
@@ -39,7 +39,7 @@ pub(crate) fn swap<P: Copy, K: Copy>(records: &mut [Record<P, K>], a: usize, b: 
 }
 
 // Does the place in slot a come before the place in slot b?
-fn comes_before<P: Copy, K: HeapKey>(records: &[Record<P, K>], a: usize, b: usize) -> bool
+fn comes_before<P, K: HeapKey>(records: &[Record<P, K>], a: usize, b: usize) -> bool
     requires first { ⌜ Names (now records) a ⌝ }
     requires second { ⌜ Names (now records) b ⌝ }
     ensures { λ r. ⌜ r ≡ ahead (K·HeapKey .before) (keys (now (records .entry))) (in-slot (now (records .entry)) a) (in-slot (now (records .entry)) b) ⌝ }
@@ -51,7 +51,7 @@ fn comes_before<P: Copy, K: HeapKey>(records: &[Record<P, K>], a: usize, b: usiz
 }
 
 // Moves the place in slot `from` up until it does not come before its parent, and answers where it stands then.
-pub(crate) fn sift_up<P: Copy, K: HeapKey>(records: &mut [Record<P, K>], from: usize) -> usize
+pub(crate) fn sift_up<P, K: HeapKey>(records: &mut [Record<P, K>], from: usize) -> usize
     requires { ⌜ Linked (now records) (from + 1) ⌝ }
     ensures slot { λ r. ⌜ r ≤ from ⌝ }
     ensures permuted { λ _. ⌜ ((n : ℕ) → Linked (now (records .entry)) n → from < n → Permuted (now (records .entry)) (now (records .exit)) n) ⌝ }
@@ -71,7 +71,7 @@ pub(crate) fn sift_up<P: Copy, K: HeapKey>(records: &mut [Record<P, K>], from: u
 }
 
 // The child of slot `at` whose place comes first.
-fn first_child<P: Copy, K: HeapKey>(records: &[Record<P, K>], used: usize, at: usize) -> usize
+fn first_child<P, K: HeapKey>(records: &[Record<P, K>], used: usize, at: usize) -> usize
     requires linked { ⌜ Linked (now records) used ⌝ }
     requires child { ⌜ at * 2 + 1 < used ⌝ }
     ensures child { λ r. ⌜ r < used ⌝ ∗ ⌜ Child «at» r ⌝ }
@@ -87,7 +87,7 @@ fn first_child<P: Copy, K: HeapKey>(records: &[Record<P, K>], used: usize, at: u
 }
 
 // Moves the place in slot `from` down until none of its children comes before it.
-pub(crate) fn sift_down<P: Copy, K: HeapKey>(records: &mut [Record<P, K>], used: usize, from: usize)
+pub(crate) fn sift_down<P, K: HeapKey>(records: &mut [Record<P, K>], used: usize, from: usize)
     requires linked { ⌜ Linked (now records) used ⌝ }
     requires slot { ⌜ from < used ⌝ }
     ensures permuted { λ _. ⌜ Permuted (now (records .entry)) (now (records .exit)) used ⌝ }
@@ -105,7 +105,7 @@ pub(crate) fn sift_down<P: Copy, K: HeapKey>(records: &mut [Record<P, K>], used:
 }
 
 // Puts the heap in order again where only the place in slot `at` may stand wrong.
-pub(crate) fn restore<P: Copy, K: HeapKey>(records: &mut [Record<P, K>], used: usize, at: usize)
+pub(crate) fn restore<P, K: HeapKey>(records: &mut [Record<P, K>], used: usize, at: usize)
     requires linked { ⌜ Linked (now records) used ⌝ }
     requires slot { ⌜ at < used ⌝ }
     ensures permuted { λ _. ⌜ Permuted (now (records .entry)) (now (records .exit)) used ⌝ }
@@ -116,12 +116,7 @@ pub(crate) fn restore<P: Copy, K: HeapKey>(records: &mut [Record<P, K>], used: u
 }
 
 // Queues a place that is not queued.
-pub(crate) fn insert<P: Copy, K: HeapKey>(
-    records: &mut [Record<P, K>],
-    used: usize,
-    place: u16,
-    key: K,
-)
+pub(crate) fn insert<P, K: HeapKey>(records: &mut [Record<P, K>], used: usize, place: u16, key: K)
     requires linked { ⌜ Linked (now records) used ⌝ }
     requires inside { ⌜ place < length (now records) ⌝ ∗ ⌜ place < 4096 ⌝ }
     requires new { ⌜ (Queued (now records) used place → ⊥) ⌝ }
@@ -136,7 +131,7 @@ pub(crate) fn insert<P: Copy, K: HeapKey>(
 }
 
 // Takes the place in slot k out of the queue, in which `left` places are left.
-fn remove_at<P: Copy, K: HeapKey>(records: &mut [Record<P, K>], left: usize, k: usize)
+fn remove_at<P, K: HeapKey>(records: &mut [Record<P, K>], left: usize, k: usize)
     requires linked { ⌜ Linked (now records) (left + 1) ⌝ }
     requires slot { ⌜ k ≤ left ⌝ }
     ensures removed { λ _. ⌜ Removed (now (records .entry)) (now (records .exit)) left (in-slot (now (records .entry)) k) ⌝ }
@@ -150,7 +145,7 @@ fn remove_at<P: Copy, K: HeapKey>(records: &mut [Record<P, K>], left: usize, k: 
 }
 
 // Takes a queued place out of the queue, in which `left` places are left.
-pub(crate) fn remove<P: Copy, K: HeapKey>(records: &mut [Record<P, K>], left: usize, place: u16)
+pub(crate) fn remove<P, K: HeapKey>(records: &mut [Record<P, K>], left: usize, place: u16)
     requires linked { ⌜ Linked (now records) (left + 1) ⌝ }
     requires queued { ⌜ Queued (now records) (left + 1) place ⌝ }
     ensures removed { λ _. ⌜ Removed (now (records .entry)) (now (records .exit)) left place ⌝ }
@@ -162,12 +157,7 @@ pub(crate) fn remove<P: Copy, K: HeapKey>(records: &mut [Record<P, K>], left: us
 }
 
 // Gives a queued place another key, and moves it to where that belongs.
-pub(crate) fn rekey<P: Copy, K: HeapKey>(
-    records: &mut [Record<P, K>],
-    used: usize,
-    place: u16,
-    key: K,
-)
+pub(crate) fn rekey<P, K: HeapKey>(records: &mut [Record<P, K>], used: usize, place: u16, key: K)
     requires linked { ⌜ Linked (now records) used ⌝ }
     requires queued { ⌜ Queued (now records) used place ⌝ }
     ensures linked { λ _. ⌜ Linked (now (records .exit)) used ⌝ }

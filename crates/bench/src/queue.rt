@@ -78,7 +78,7 @@ pub(crate) fn put_standing<P: PriceKind>(records: &mut [Record<P>], place: usize
     ensures queue { λ _. ⌜ ((n q : ℕ) → (Queued (now (records .entry)) n q → Queued (now (records .exit)) n q) × (Queued (now (records .exit)) n q → Queued (now (records .entry)) n q)) ⌝ }
     ensures order { λ _. ⌜ ((n : ℕ) → Sorted-in (P·PriceKind .value) (now (records .entry)) n → Sorted-in (P·PriceKind .value) (now (records .exit)) n) ⌝ }
 {
-    fields::put_standing(records, place, standing);
+    records[place].standing = standing;
 }
 
 pub(crate) fn put_lookahead<P: PriceKind>(records: &mut [Record<P>], place: usize, lookahead: P)
@@ -89,7 +89,7 @@ pub(crate) fn put_lookahead<P: PriceKind>(records: &mut [Record<P>], place: usiz
     ensures queue { λ _. ⌜ ((n q : ℕ) → (Queued (now (records .entry)) n q → Queued (now (records .exit)) n q) × (Queued (now (records .exit)) n q → Queued (now (records .entry)) n q)) ⌝ }
     ensures order { λ _. ⌜ ((n : ℕ) → Sorted-in (P·PriceKind .value) (now (records .entry)) n → Sorted-in (P·PriceKind .value) (now (records .exit)) n) ⌝ }
 {
-    fields::put_lookahead(records, place, lookahead);
+    records[place].lookahead = lookahead;
 }
 
 // Queues a place under a key, or gives it that key where it is queued already, and answers how many slots are used then.

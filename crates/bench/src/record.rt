@@ -2,7 +2,7 @@
 use crate::key::Key;
 
 // Record p is that of place p, and holds slot p of the queue besides.
-#[derive(Clone, Copy)]
+#[derive(Drop)]
 pub struct Record<P, K = Key<P>> {
     // standing (published: g): the price of the place as far as it is known
     pub standing: P,

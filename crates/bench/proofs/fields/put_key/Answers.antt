@@ -1,7 +1,12 @@
 use mathlib.Core.Path.{refl}
+use borrow.Author.Needs.{needs, scaled-fits}
+use lib.ListN.{length}
 use Rattle.std.proofs.shelf.Lists.{map-set}
 use lib.Seq.{map-set-same}
 use Rattle.bench.proofs.fields.put_key.Needs as need
+
+pub offset-records-p : need.offset-records-p
+offset-records-p g c = scaled-fits (c .args .p) (length (c .args .records .now)) _ (c .pre) (search needs)
 
 pub returns : need.returns
 returns g c =

@@ -1,7 +1,14 @@
 use native.Mathlib.Omega.{arith}
+use Rattle.bench.proofs.Links.{names}
 use Rattle.bench.proofs.Sifts.{left-child, only-child, right-child}
 use Rattle.bench.proofs.heap.first_child.Needs as need
 use Rattle.bench.proofs.heap.first_child.Needs.{else-right-used·by·then-right-used·else-comes-before, else-right-used·by·else-right-used}
+
+pub comes-before-requires : need.comes-before-requires
+comes-before-requires g c κs =
+    let rs = c .args .records .now in
+    let n = c .args .used in
+    record { first = names rs n _ (c .pre .linked) (omega arith); second = names rs n _ (c .pre .linked) (omega arith) }
 
 pub returns-then-comes-before : need.returns-then-comes-before
 returns-then-comes-before g c = record {

@@ -4,6 +4,12 @@ use Rattle.bench.proofs.Columns.{column-same, column-set}
 use Rattle.bench.proofs.Tops.{order-kept, queue-added, queue-rekeyed}
 use Rattle.bench.proofs.queue.enqueue.Needs as need
 
+pub rekey-requires : need.rekey-requires
+rekey-requires g c κs = record { linked = c .pre .linked; queued = c .is-queued .ensures .0 (c .if-is-queued .taken) }
+
+pub insert-requires : need.insert-requires
+insert-requires g c κs = record { linked = c .pre .linked; inside = c .pre .inside; new = c .is-queued .ensures .1 (c .if-is-queued .left) }
+
 pub returns-then-is-queued : need.returns-then-is-queued
 returns-then-is-queued g c =
     let v = g .P·PriceKind .value in

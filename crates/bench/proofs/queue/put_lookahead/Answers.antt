@@ -1,18 +1,29 @@
+use mathlib.Core.Path.{_≡_, refl}
+use borrow.Author.Needs.{needs, scaled-fits}
+use lib.ListN.{getD, length, set}
+use lib.Seq.{map-set-same}
+use Rattle.std.proofs.shelf.Lists.{map-set}
 use Rattle.bench.specs.Keys.{key-of}
-use Rattle.bench.proofs.Columns.{column-same, column-set}
+use Rattle.bench.specs.Records.{indexes, slots}
 use Rattle.bench.proofs.Tops.{order-same, queue-same}
 use Rattle.bench.proofs.queue.put_lookahead.Needs as need
+
+pub offset-records-place : need.offset-records-place
+offset-records-place g c = scaled-fits (c .args .place) (length (c .args .records .now)) _ (c .pre) (search needs)
 
 pub returns : need.returns
 returns g c =
     let v = g .P·PriceKind .value in
     let rs = c .args .records .now in
-    let ss = c .put-lookahead .last .records in
-    let e = c .put-lookahead .ensures in
+    let i = c .args .place in
+    let d = c .index-records-place .result in
+    let es = map-set-same (λ r. r .slot) rs i _ d refl in
+    let ei = map-set-same (λ r. r .index) rs i _ d refl in
+    let ek = map-set-same (λ r. key-of v (r .key)) rs i _ d refl in
     record {
-      links = e .links;
-      written = column-set (λ r. r .lookahead) v rs ss (c .args .place) (c .args .lookahead) (e .written);
-      rest = (column-same (λ r. r .standing) v rs ss (e .rest .0), column-same (λ r. r .key) (key-of v) rs ss (e .rest .1));
-      queue = queue-same rs ss (e .links .0) (e .links .1);
-      order = order-same v rs ss (e .links .0) (column-same (λ r. r .key) (key-of v) rs ss (e .rest .1));
+      links = (es, ei);
+      written = map-set (λ r. v (r .lookahead)) rs i _;
+      rest = (map-set-same (λ r. v (r .standing)) rs i _ d refl, ek);
+      queue = queue-same rs _ es ei;
+      order = order-same v rs _ es ek;
     }
