@@ -6,4 +6,4 @@ mod Links
 mod Pigeons
 mod Sifts
 mod Inserts
-mod Tops
+mod Prices

@@ -9,19 +9,21 @@ use Rattle.rows.specs.Rows.{Price}
 use Rattle.rows.specs.Keys.{Key}
 use Rattle.bench.specs.declared.bench.Bench.{Bench}
 use Rattle.bench.specs.Queue.{Queued}
-use Rattle.bench.specs.Worths.{Least-in, Others, Sorted-in, keys-in, lookaheads-in, standings-in}
+use Rattle.bench.specs.Prices.{Least-in, Others, Sorted-in, keys-in, lookaheads-in, standings-in}
 
 -- the number of records, and so of places that the bench has room for
 abbrev pub room : {P : Type 0} → Bench P → ℕ
 room b = length (b .records .now)
 
--- of each place, where v gives the price that a value stands for: its standing, its lookahead and its key
+-- standing (published: g), of each place; v gives the price that a value stands for
 abbrev pub standings : {P : Type 0} → (P → Price) → Bench P → List Price
 standings v b = standings-in v (b .records .now)
 
+-- lookahead (published: rhs), of each place
 abbrev pub lookaheads : {P : Type 0} → (P → Price) → Bench P → List Price
 lookaheads v b = lookaheads-in v (b .records .now)
 
+-- the key that is kept of each place, queued or not
 abbrev pub keys : {P : Type 0} → (P → Price) → Bench P → List Key
 keys v b = keys-in v (b .records .now)
 

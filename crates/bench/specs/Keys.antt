@@ -1,20 +1,21 @@
--- Keys as the definitions have them, and their order.
+-- The keys that pairs of prices stand for, and their order.
 use mathlib.Core.Bool.{Bool}
 use Prim.Native.Nat.{ℕ}
-use Rattle.rows.specs.Rows.{Price, closed}
-use Rattle.rows.specs.Keys.{Key as Worth, before}
+use Rattle.rows.specs.Rows.{Price}
+use Rattle.rows.specs.Keys.{Key as RowKey, before}
 use Rattle.rows.proofs.Keys.{before-chain, before-one-way}
 use Rattle.bench.specs.declared.key.Key.{Key}
 use Rattle.bench.specs.Order.{Weak-order}
 
 -- the key that a pair of prices stands for, where v gives the price that a value stands for
-abbrev pub key-of : {P : Type 0} → (P → Price) → Key P → Worth
+abbrev pub key-of : {P : Type 0} → (P → Price) → Key P → RowKey
 key-of v k = record { whole = v (k .whole); own = v (k .own) }
 
 -- place p under key a comes before place q under key b
 abbrev pub key-before : {P : Type 0} → (P → Price) → Key P → ℕ → Key P → ℕ → Bool
 key-before v a p b q = before (key-of v a) p (key-of v b) q
 
+-- the order of places under their keys is one that a heap can keep
 pub ordered : Weak-order before
 ordered = record { one-way = before-one-way; chain = before-chain }
 

@@ -4,5 +4,5 @@ pub mod Heap
 pub mod Records
 pub mod Queue
 pub mod Sorted
-pub mod Worths
+pub mod Prices
 pub mod Contents

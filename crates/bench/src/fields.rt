@@ -1,7 +1,7 @@
 // One field of one record, read or written: what each leaves of the columns.
 ghost use mathlib.Core.Path.{_≡_};
 ghost use Prim.Native.Nat.{_<_};
-ghost use lib.ListN.{getD, length, set};
+ghost use lib.ListN.{length, set};
 ghost use Rattle.std.specs.declared.option.Option.the-variants.{Some};
 ghost use Rattle.std.specs.shelf.Maps.{nth};
 ghost use Rattle.bench.specs.Queue.{Rekeyed};
@@ -32,6 +32,7 @@ pub(crate) fn key_of<P, K: Copy>(records: &[Record<P, K>], p: usize) -> K
     records[p].key
 }
 
+// Slot k names another place.
 pub(crate) fn put_slot<P, K>(records: &mut [Record<P, K>], k: usize, place: u16)
     requires { ⌜ k < length (now records) ⌝ }
     ensures slots { λ _. ⌜ slot-column (now (records .exit)) ≡ set (slot-column (now (records .entry))) k place ⌝ }
@@ -41,6 +42,7 @@ pub(crate) fn put_slot<P, K>(records: &mut [Record<P, K>], k: usize, place: u16)
     records[k].slot = place;
 }
 
+// The index of place p names another slot.
 pub(crate) fn put_index<P, K>(records: &mut [Record<P, K>], p: usize, slot: u16)
     requires { ⌜ p < length (now records) ⌝ }
     ensures slots { λ _. ⌜ slot-column (now (records .exit)) ≡ slot-column (now (records .entry)) ⌝ }
@@ -50,6 +52,7 @@ pub(crate) fn put_index<P, K>(records: &mut [Record<P, K>], p: usize, slot: u16)
     records[p].index = slot;
 }
 
+// Place p has another key.
 pub(crate) fn put_key<P, K: Copy>(records: &mut [Record<P, K>], p: usize, key: K)
     requires { ⌜ p < length (now records) ⌝ }
     ensures slots { λ _. ⌜ slot-column (now (records .exit)) ≡ slot-column (now (records .entry)) ⌝ }

@@ -25,7 +25,7 @@ fn parent(slot: usize) -> usize
 }
 
 // Exchanges the places in two slots, and their indexes with them.
-pub(crate) fn swap<P, K>(records: &mut [Record<P, K>], a: usize, b: usize)
+fn swap<P, K>(records: &mut [Record<P, K>], a: usize, b: usize)
     requires first { ⌜ Names (now records) a ⌝ }
     requires second { ⌜ Names (now records) b ⌝ }
     ensures { λ _. ⌜ Exchanged (now (records .entry)) (now (records .exit)) a b ⌝ }
@@ -51,7 +51,7 @@ fn comes_before<P, K: HeapKey>(records: &[Record<P, K>], a: usize, b: usize) -> 
 }
 
 // Moves the place in slot `from` up until it does not come before its parent, and answers where it stands then.
-pub(crate) fn sift_up<P, K: HeapKey>(records: &mut [Record<P, K>], from: usize) -> usize
+fn sift_up<P, K: HeapKey>(records: &mut [Record<P, K>], from: usize) -> usize
     requires { ⌜ Linked (now records) (from + 1) ⌝ }
     ensures slot { λ r. ⌜ r ≤ from ⌝ }
     ensures permuted { λ _. ⌜ ((n : ℕ) → Linked (now (records .entry)) n → from < n → Permuted (now (records .entry)) (now (records .exit)) n) ⌝ }
@@ -87,7 +87,7 @@ fn first_child<P, K: HeapKey>(records: &[Record<P, K>], used: usize, at: usize) 
 }
 
 // Moves the place in slot `from` down until none of its children comes before it.
-pub(crate) fn sift_down<P, K: HeapKey>(records: &mut [Record<P, K>], used: usize, from: usize)
+fn sift_down<P, K: HeapKey>(records: &mut [Record<P, K>], used: usize, from: usize)
     requires linked { ⌜ Linked (now records) used ⌝ }
     requires slot { ⌜ from < used ⌝ }
     ensures permuted { λ _. ⌜ Permuted (now (records .entry)) (now (records .exit)) used ⌝ }
@@ -105,7 +105,7 @@ pub(crate) fn sift_down<P, K: HeapKey>(records: &mut [Record<P, K>], used: usize
 }
 
 // Puts the heap in order again where only the place in slot `at` may stand wrong.
-pub(crate) fn restore<P, K: HeapKey>(records: &mut [Record<P, K>], used: usize, at: usize)
+fn restore<P, K: HeapKey>(records: &mut [Record<P, K>], used: usize, at: usize)
     requires linked { ⌜ Linked (now records) used ⌝ }
     requires slot { ⌜ at < used ⌝ }
     ensures permuted { λ _. ⌜ Permuted (now (records .entry)) (now (records .exit)) used ⌝ }

@@ -56,7 +56,8 @@ impl<'a, P: PriceKind> Bench<'a, P> {
         queue::is_queued(self.records, self.used, place)
     }
 
-    // The place in the queue that comes first, or none where the queue is empty.
+    // The place in the queue that comes first, or none where the queue is empty. Where the queue is not in heap order,
+    // which of the queued places it is is free.
     pub fn top(&self) -> Option<u16>
         ensures place { λ r. ⌜ BySome r ((q : ℕ) → Waits (now (self .entry)) q → ⊥) (λ p. Waits (now (self .entry)) p × (p < room (now (self .entry))) × (p < 4096)) ⌝ }
         ensures least { λ r. ⌜ (Sorted (P·PriceKind .value) (now (self .entry)) → BySome r (Unit {0}) (λ p. Least (P·PriceKind .value) (now (self .entry)) p)) ⌝ }

@@ -5,10 +5,10 @@ ghost use Prim.Native.Nat.{ℕ, _<_};
 ghost use lib.ListN.{length, set};
 ghost use Rattle.std.specs.Options.{Cases as BySome, mapped};
 ghost use Rattle.std.specs.shelf.Maps.{nth};
-ghost use Rattle.bench.specs.Keys.{key-of as worth-of};
+ghost use Rattle.bench.specs.Keys.{key-of as row-key};
 ghost use Rattle.bench.specs.Queue.{Linked, Queued};
 ghost use Rattle.bench.specs.Records.{indexes as index-column, slots as slot-column};
-ghost use Rattle.bench.specs.Worths.{Least-in, Others, Sorted-in, keys-in, lookaheads-in, standings-in};
+ghost use Rattle.bench.specs.Prices.{Least-in, Others, Sorted-in, keys-in, lookaheads-in, standings-in};
 use crate::fields;
 use crate::heap;
 use crate::key::Key;
@@ -16,6 +16,7 @@ use crate::order::KeyOrder;
 use crate::record::Record;
 use price::PriceKind;
 
+// The standing of a place, its lookahead and its key; none past the memory.
 pub(crate) fn standing_of<P: PriceKind>(records: &[Record<P>], place: usize) -> Option<P>
     ensures { λ r. ⌜ mapped (P·PriceKind .value) r ≡ nth (standings-in (P·PriceKind .value) (now (records .entry))) place ⌝ }
 {
@@ -35,7 +36,7 @@ pub(crate) fn lookahead_of<P: PriceKind>(records: &[Record<P>], place: usize) ->
 }
 
 pub(crate) fn key_of<P: PriceKind>(records: &[Record<P>], place: usize) -> Option<Key<P>>
-    ensures { λ r. ⌜ mapped (worth-of (P·PriceKind .value)) r ≡ nth (keys-in (P·PriceKind .value) (now (records .entry))) place ⌝ }
+    ensures { λ r. ⌜ mapped (row-key (P·PriceKind .value)) r ≡ nth (keys-in (P·PriceKind .value) (now (records .entry))) place ⌝ }
 {
     match records.get(place) {
         Some(record) => Some(record.key),
@@ -70,6 +71,7 @@ pub(crate) fn first<P: PriceKind>(records: &[Record<P>], used: usize) -> Option<
     Some(fields::slot_of(records, 0))
 }
 
+// Another standing, and another lookahead, for a place: who is queued and in which order stays.
 pub(crate) fn put_standing<P: PriceKind>(records: &mut [Record<P>], place: usize, standing: P)
     requires { ⌜ place < length (now records) ⌝ }
     ensures links { λ _. ⌜ slot-column (now (records .exit)) ≡ slot-column (now (records .entry)) ⌝ ∗ ⌜ index-column (now (records .exit)) ≡ index-column (now (records .entry)) ⌝ }
@@ -104,7 +106,7 @@ pub(crate) fn enqueue<P: PriceKind>(
     ensures linked { λ r. ⌜ Linked (now (records .exit)) r ⌝ }
     ensures queued { λ r. ⌜ Queued (now (records .exit)) r place ⌝ }
     ensures others { λ r. ⌜ Others (now (records .entry)) used (now (records .exit)) r place ⌝ }
-    ensures written { λ _. ⌜ keys-in (P·PriceKind .value) (now (records .exit)) ≡ set (keys-in (P·PriceKind .value) (now (records .entry))) place (worth-of (P·PriceKind .value) key) ⌝ }
+    ensures written { λ _. ⌜ keys-in (P·PriceKind .value) (now (records .exit)) ≡ set (keys-in (P·PriceKind .value) (now (records .entry))) place (row-key (P·PriceKind .value) key) ⌝ }
     ensures rest { λ _. ⌜ standings-in (P·PriceKind .value) (now (records .exit)) ≡ standings-in (P·PriceKind .value) (now (records .entry)) ⌝ ∗ ⌜ lookaheads-in (P·PriceKind .value) (now (records .exit)) ≡ lookaheads-in (P·PriceKind .value) (now (records .entry)) ⌝ }
     ensures order { λ r. ⌜ (Sorted-in (P·PriceKind .value) (now (records .entry)) used → Sorted-in (P·PriceKind .value) (now (records .exit)) r) ⌝ }
 {

@@ -5,7 +5,7 @@ ghost use mathlib.Core.Bool.{true};
 ghost use denote.Ref.{name};
 ghost use Rattle.bench.specs.Contents.{keys, lookaheads, standings};
 ghost use Rattle.bench.specs.Keys.{key-of};
-ghost use Rattle.bench.specs.Worths.{keys-in, lookaheads-in, standings-in};
+ghost use Rattle.bench.specs.Prices.{keys-in, lookaheads-in, standings-in};
 use bench::Bench;
 use bench::Key;
 use bench::Record;

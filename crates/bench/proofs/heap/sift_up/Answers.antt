@@ -1,6 +1,5 @@
-use Prim.Native.Nat.{ℕ, _+_, _<_, _≤_}
+use Prim.Native.Nat.{_+_}
 use native.Mathlib.Omega.{arith}
-use Rattle.bench.specs.Queue.{Linked, Names}
 use Rattle.bench.proofs.Links.{again, names, swap-permutes, swapped}
 use Rattle.bench.proofs.Sifts.{rests, step-up, tops}
 use Rattle.bench.proofs.heap.sift_up.Needs as need

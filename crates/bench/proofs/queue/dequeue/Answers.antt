@@ -3,7 +3,7 @@ use Prim.Native.Nat.{_-_, _<_}
 use native.Mathlib.Omega.{arith}
 use Rattle.bench.specs.Keys.{key-of}
 use Rattle.bench.proofs.Columns.{column-same}
-use Rattle.bench.proofs.Tops.{order-left, queue-removed}
+use Rattle.bench.proofs.Prices.{order-left, queue-removed}
 use Rattle.bench.proofs.queue.dequeue.Needs as need
 
 pub returns : need.returns

@@ -1,7 +1,7 @@
 use Prim.Native.Nat.{_+_}
 use Rattle.bench.specs.Keys.{key-of}
 use Rattle.bench.proofs.Columns.{column-same, column-set}
-use Rattle.bench.proofs.Tops.{order-kept, queue-added, queue-rekeyed}
+use Rattle.bench.proofs.Prices.{order-kept, queue-added, queue-rekeyed}
 use Rattle.bench.proofs.queue.enqueue.Needs as need
 
 pub rekey-requires : need.rekey-requires

@@ -1,7 +1,7 @@
 use Prim.Native.Nat.{_<_}
 use native.Mathlib.Omega.{arith}
 use Rattle.bench.proofs.Links.{queued-low, queued-within}
-use Rattle.bench.proofs.Tops.{top-least, top-queued}
+use Rattle.bench.proofs.Prices.{top-least, top-queued}
 use Rattle.bench.proofs.queue.first.Needs as need
 
 pub returns : need.returns

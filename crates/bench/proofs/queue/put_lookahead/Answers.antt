@@ -1,11 +1,10 @@
-use mathlib.Core.Path.{_≡_, refl}
+use mathlib.Core.Path.{refl}
 use borrow.Author.Needs.{needs, scaled-fits}
-use lib.ListN.{getD, length, set}
+use lib.ListN.{length}
 use lib.Seq.{map-set-same}
 use Rattle.std.proofs.shelf.Lists.{map-set}
 use Rattle.bench.specs.Keys.{key-of}
-use Rattle.bench.specs.Records.{indexes, slots}
-use Rattle.bench.proofs.Tops.{order-same, queue-same}
+use Rattle.bench.proofs.Prices.{order-same, queue-same}
 use Rattle.bench.proofs.queue.put_lookahead.Needs as need
 
 pub offset-records-place : need.offset-records-place

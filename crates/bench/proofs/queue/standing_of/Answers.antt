@@ -1,4 +1,4 @@
-use denote.Ref.{RefT, now}
+use denote.Ref.{now}
 use Rattle.std.specs.declared.option.Option.the-variants.{None, Some}
 use Rattle.bench.proofs.Columns.{item-column}
 use Rattle.bench.proofs.queue.standing_of.Needs as need

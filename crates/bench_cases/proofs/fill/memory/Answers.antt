@@ -1,5 +1,5 @@
 use borrow.Author.Needs.{needs}
-use Rattle.std.proofs.shelf.Results.{err-from-errBy, made-from-err}
+use Rattle.std.proofs.shelf.Results.{made-from-err}
 use Rattle.bench_cases.proofs.fill.memory.Needs as need
 
 pub returns-in-Break-push : need.returns-in-Break-push

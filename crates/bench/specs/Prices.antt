@@ -5,7 +5,7 @@ use mathlib.Core.List.{List, map}
 use Prim.Native.Nat.{ℕ}
 use lib.ListN.{getD}
 use Rattle.rows.specs.Rows.{Price, closed}
-use Rattle.rows.specs.Keys.{Key as Worth, before}
+use Rattle.rows.specs.Keys.{Key as RowKey, before}
 use Rattle.bench.specs.declared.key.Key.{Key}
 use Rattle.bench.specs.declared.record.Record.{Record}
 use Rattle.bench.specs.Heap.{Ordered}
@@ -23,11 +23,11 @@ abbrev pub lookaheads-in : {P : Type 0} → (P → Price) → List (Record P (Ke
 lookaheads-in v rs = map (λ r. v (r .lookahead)) rs
 
 -- the key that is kept of each place, queued or not
-abbrev pub keys-in : {P : Type 0} → (P → Price) → List (Record P (Key P)) → List Worth
+abbrev pub keys-in : {P : Type 0} → (P → Price) → List (Record P (Key P)) → List RowKey
 keys-in v rs = map (λ r. key-of v (r .key)) rs
 
 -- the key of place p; past the memory, where no place is queued, closed prices stand for one
-abbrev pub key-at : {P : Type 0} → (P → Price) → List (Record P (Key P)) → ℕ → Worth
+abbrev pub key-at : {P : Type 0} → (P → Price) → List (Record P (Key P)) → ℕ → RowKey
 key-at v rs p = getD (keys-in v rs) p (record { whole = closed; own = closed })
 
 -- the used slots are in heap order: no place comes before the one in the parent's slot

@@ -1,7 +1,7 @@
 -- The top of the queue, and the queue after a change, as prices see it.
 use mathlib.Core.Path.{_≡_, sym, ap, subst, _∙_}
 use mathlib.Core.List.{List, map-map}
-use Prim.Native.Nat.{ℕ, _+_, _-_, _<_, _≤_}
+use Prim.Native.Nat.{ℕ, _+_, _-_, _<_}
 use native.Mathlib.Omega.{arith}
 use lib.ListN.{getD, length}
 use Rattle.std.proofs.shelf.Lists.{length-map}
@@ -17,7 +17,7 @@ use Rattle.bench.specs.Keys.{key-before, key-of, ordered}
 use Rattle.bench.specs.Queue.{Added, Linked, Queued, Removed, Same-places}
 use Rattle.bench.specs.Records.{in-slot, index-of, indexes, keys, slots}
 use Rattle.bench.specs.Sorted.{In-order, ahead}
-use Rattle.bench.specs.Worths.{Least-in, Others, Sorted-in, key-at, keys-in}
+use Rattle.bench.specs.Prices.{Least-in, Others, Sorted-in, key-at, keys-in}
 use Rattle.bench.proofs.Heaps as heaps
 use Rattle.bench.proofs.Links.{queued-within, requeued, slot-queued}
 use Rattle.bench.proofs.Ranked.{ahead-keys, ahead-mapped, ranks}
