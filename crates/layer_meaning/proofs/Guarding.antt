@@ -81,6 +81,13 @@ held-there ps m n t = links-held ps m n ∙ cond-true (touched ps (link-at m n))
 pub free-there : (ps : List ℕ) (m : Meaning) (n : ℕ) → touched ps (link-at m n) ≡ false → link-at (guarded ps m) n ≡ link-at m n
 free-there ps m n t = links-held ps m n ∙ cond-false (touched ps (link-at m n)) (held-at (above (m .height)) (link-at m n)) (link-at m n) t
 
+-- the answer below is the guard's, held or as it is
+pub held-answer : (ps : List ℕ) (m : Meaning) (n : ℕ) (o : Option Link) → o ≡ link-at m n → touched ps o ≡ true → held-at (above (m .height)) o ≡ link-at (guarded ps m) n
+held-answer ps m n o e t = ap (held-at (above (m .height))) e ∙ sym (held-there ps m n (ap (touched ps) (sym e) ∙ t))
+
+pub free-answer : (ps : List ℕ) (m : Meaning) (n : ℕ) (o : Option Link) → o ≡ link-at m n → touched ps o ≡ false → o ≡ link-at (guarded ps m) n
+free-answer ps m n o e t = e ∙ sym (free-there ps m n (ap (touched ps) (sym e) ∙ t))
+
 pub refused-held : Guard-refuses
 refused-held ps m n p t =
     ap (λ (o : Option Link). refusal-at (m .kind) o n p) (held-there ps m n t) ∙

@@ -10,6 +10,8 @@ use Rattle.std.proofs.shelf.Lists.{getD-map, length-map, length-replicate}
 use Rattle.std.proofs.shelf.Tests.{and-parts, false≢true, le-ltb}
 use Rattle.std.specs.declared.option.Option.{Option}
 use Rattle.std.specs.declared.option.Option.the-variants.{Some, None}
+use Rattle.std.specs.Options.{mapped}
+use Rattle.std.specs.shelf.Maps.{nth}
 use Rattle.rows.specs.Rows.{Kind, Price, closed, open-at, add-rows, all-below, at-most, is-open, less, linkable, row-less, sum, zero-of}
 use Rattle.rows.proofs.Sums.{add-rows-length}
 use Rattle.chart.specs.Lawful.{Consistent, Estimate-law, Lawful, Lawful-link, Link-law, Room}
@@ -61,7 +63,21 @@ handed-on m n p = (
       (priced-mapped reversed refl p (m .links) n (priced-reversed p (link-at m n))),
 )
 
+-- the answer below, the other way round, is the return's
+pub link-answer : (m : Meaning) (n : ℕ) (o : Option Link) → o ≡ link-at m n → reversed o ≡ link-at (returned m) n
+link-answer m n o e = ap reversed e ∙ sym (links-reversed m n)
+
 -- every place has the estimate zero
+nth-mapped : (f : Price → Price) (es : List Price) (n : ℕ) → nth (map f es) n ≡ mapped f (nth es n)
+nth-mapped f [] n = refl
+nth-mapped f (e ∷ es) zero = refl
+nth-mapped f (e ∷ es) (suc n) = nth-mapped f es n
+
+pub estimate-answer : (m : Meaning) (p : ℕ) (o : Option Price) → o ≡ nth (m .estimates) p →
+    mapped (λ (_ : Price). zero-of (m .kind)) o ≡ nth (returned m .estimates) p
+estimate-answer m p o e =
+    ap (mapped (λ (_ : Price). zero-of (m .kind))) e ∙ sym (nth-mapped (λ (_ : Price). zero-of (m .kind)) (m .estimates) p)
+
 pub places-returned : (m : Meaning) → places (returned m) ≡ places m
 places-returned m = length-map (m .estimates) (λ (_ : Price). zero-of (m .kind))
 
