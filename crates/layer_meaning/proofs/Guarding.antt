@@ -1,20 +1,19 @@
 -- A guard keeps what the chart below says, but for the links that it holds.
-use mathlib.Core.Path.{_≡_, refl, sym, subst, ap, _∙_}
+use mathlib.Core.Path.{_≡_, refl, sym, ap, _∙_}
 use mathlib.Core.Bool.{Bool, true, false, cond, not}
-use mathlib.Core.List.{List, [], _∷_, map}
-use Prim.Native.Nat.{ℕ, _≤_, _<_}
+use mathlib.Core.List.{List, map}
+use Prim.Native.Nat.{ℕ, _≤_}
 use native.Mathlib.Omega.{arith}
 use lib.Dec.{eqb}
-use lib.ListN.{getD, length}
 use Rattle.std.proofs.shelf.Lists.{length-map}
 use Rattle.std.proofs.shelf.Tests.{cond-true, cond-false, true≢false}
 use Rattle.std.specs.declared.option.Option.{Option}
 use Rattle.std.specs.declared.option.Option.the-variants.{Some, None}
-use Rattle.rows.specs.Rows.{Kind, Price, closed}
-use Rattle.chart.specs.Lawful.{Consistent, Lawful, Lawful-link, Link-law}
-use Rattle.chart.specs.Meaning.{Link, Meaning, link-at, places, priced, with-price}
-use Rattle.chart.specs.Questions.{Next, into, leads-into, leads-out, out-of}
-use Rattle.chart.specs.Refusals.{Refusal, refusal, refusal-at}
+use Rattle.rows.specs.Rows.{Kind, Price}
+use Rattle.chart.specs.Lawful.{Consistent, Link-law}
+use Rattle.chart.specs.Meaning.{Link, Meaning, link-at, places, with-price}
+use Rattle.chart.specs.Questions.{Next, leads-into, leads-out}
+use Rattle.chart.specs.Refusals.{refusal-at}
 use Rattle.layer_meaning.specs.Guarded.{guarded, guarded-link, held-at, touched}
 use Rattle.layer_meaning.specs.Heights.{above}
 use Rattle.layer_meaning.specs.Theorems.{Guard-hands-on, Guard-into, Guard-lawful, Guard-links, Guard-out, Guard-refuses, Upper-holds}

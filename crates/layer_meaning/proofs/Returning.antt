@@ -2,27 +2,27 @@
 use mathlib.Core.Path.{_≡_, refl, sym, subst, ap, _∙_}
 use mathlib.Core.Bool.{Bool, true, false, cond}
 use mathlib.Core.List.{List, [], _∷_, map}
-use Prim.Native.Nat.{ℕ, zero, suc, _+_, _*_, _≤_, _<_}
+use Prim.Native.Nat.{ℕ, zero, suc, _≤_, _<_}
 use native.Mathlib.Omega.{arith}
 use lib.Dec.{eqb, leb, ltb}
-use lib.ListN.{getD, length, replicate}
+use lib.ListN.{length, replicate}
 use Rattle.std.proofs.shelf.Lists.{getD-map, length-map, length-replicate}
 use Rattle.std.proofs.shelf.Tests.{and-parts, false≢true, le-ltb}
 use Rattle.std.specs.declared.option.Option.{Option}
 use Rattle.std.specs.declared.option.Option.the-variants.{Some, None}
 use Rattle.std.specs.Options.{mapped}
 use Rattle.std.specs.shelf.Maps.{nth}
-use Rattle.rows.specs.Rows.{Kind, Price, closed, open-at, add-rows, all-below, at-most, is-open, less, linkable, row-less, sum, zero-of}
+use Rattle.rows.specs.Rows.{Kind, Price, closed, open-at, add-rows, all-below, at-most, less, linkable, row-less, sum, zero-of}
 use Rattle.rows.proofs.Sums.{add-rows-length}
-use Rattle.chart.specs.Lawful.{Consistent, Estimate-law, Lawful, Lawful-link, Link-law, Room}
-use Rattle.chart.specs.Meaning.{Link, Meaning, estimate-at, link-at, places, priced, with-price}
-use Rattle.chart.specs.Questions.{Next, into, leads-into, leads-out, out-of}
-use Rattle.chart.specs.Refusals.{Refusal, refusal, refusal-at}
+use Rattle.chart.specs.Lawful.{Consistent, Estimate-law, Link-law, Room}
+use Rattle.chart.specs.Meaning.{Link, Meaning, estimate-at, link-at, places, with-price}
+use Rattle.chart.specs.Questions.{Next, leads-into, leads-out}
+use Rattle.chart.specs.Refusals.{refusal-at}
 use Rattle.layer_meaning.specs.Heights.{above}
 use Rattle.layer_meaning.specs.Returned.{returned, reversed}
 use Rattle.layer_meaning.specs.Theorems.{Return-hands-on, Return-into, Return-lawful, Return-links, Return-out}
 use Rattle.layer_meaning.proofs.Mapped.{each-mapped, link-mapped, next-mapped, numbers-mapped, priced-mapped}
-use Rattle.layer_meaning.proofs.Raised.{above-low, above-more, raised}
+use Rattle.layer_meaning.proofs.Raised.{above-low, above-more}
 
 into-reversed : (p : ℕ) (o : Option Link) → leads-into p (reversed o) ≡ leads-out p o
 into-reversed p None = refl

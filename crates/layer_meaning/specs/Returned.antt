@@ -1,5 +1,5 @@
 -- What a return makes of the chart below it.
-use mathlib.Core.List.{List, map}
+use mathlib.Core.List.{map}
 use Rattle.rows.specs.Rows.{Price, zero-of}
 use Rattle.std.specs.declared.option.Option.{Option}
 use Rattle.std.specs.declared.option.Option.the-variants.{Some, None}

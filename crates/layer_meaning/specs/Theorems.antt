@@ -4,12 +4,11 @@ use mathlib.Core.Bool.{true, false}
 use mathlib.Core.List.{List}
 use Prim.Native.Nat.{ℕ}
 use Rattle.rows.specs.Rows.{Price}
-use Rattle.std.specs.declared.option.Option.{Option}
-use Rattle.std.specs.declared.option.Option.the-variants.{Some, None}
+use Rattle.std.specs.declared.option.Option.the-variants.{Some}
 use Rattle.chart.specs.Lawful.{Lawful}
 use Rattle.chart.specs.Meaning.{Meaning, link-at, priced}
 use Rattle.chart.specs.Questions.{into, out-of}
-use Rattle.chart.specs.Refusals.{Refusal, refusal}
+use Rattle.chart.specs.Refusals.{refusal}
 use Rattle.layer_meaning.specs.Guarded.{guarded, guarded-link, held-at, touched}
 use Rattle.layer_meaning.specs.Heights.{above}
 use Rattle.layer_meaning.specs.Returned.{returned, reversed}

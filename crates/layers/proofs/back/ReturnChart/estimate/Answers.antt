@@ -1,5 +1,5 @@
 use mathlib.Core.Path.{sym, ap, _∙_}
-use Rattle.rows.specs.Rows.{Kind, Price, zero-of}
+use Rattle.rows.specs.Rows.{Price, zero-of}
 use Rattle.std.specs.declared.option.Option.the-variants.{Some, None}
 use Rattle.layer_meaning.proofs.Returning.{estimate-answer}
 use Rattle.layers.proofs.back.ReturnChart.estimate.Needs as need

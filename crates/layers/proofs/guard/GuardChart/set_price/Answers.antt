@@ -1,7 +1,7 @@
 use mathlib.Core.Path.{refl, sym, ap, _∙_}
 use Rattle.std.specs.declared.option.Option.{Option}
 use Rattle.std.specs.declared.option.Option.the-variants.{Some}
-use Rattle.chart.specs.Meaning.{Meaning, priced}
+use Rattle.chart.specs.Meaning.{priced}
 use Rattle.chart.specs.Refusals.{Refusal, unless}
 use Rattle.layer_meaning.specs.Guarded.{guarded}
 use Rattle.layer_meaning.proofs.Raised.{set-through}
