@@ -14,7 +14,7 @@ const MOST: usize = 64;
 // The first `count` places are listed.
 #[derive(Clone, Copy)]
 pub struct Listed {
-    places: [u16; 64],
+    places: [u16; MOST],
     count: usize,
     ghost within: { count ≤ 64 },
 }
