@@ -9,16 +9,16 @@ use Rattle.std.proofs.shelf.Lists.{length-map}
 use Rattle.std.proofs.shelf.Tests.{cond-true, cond-false, true≢false}
 use Rattle.std.specs.declared.option.Option.{Option}
 use Rattle.std.specs.declared.option.Option.the-variants.{Some, None}
-use Rattle.rows.specs.Rows.{Kind, Price}
+use Rattle.rows.specs.Rows.{Kind, Price, closed}
 use Rattle.chart.specs.Lawful.{Consistent, Link-law}
-use Rattle.chart.specs.Meaning.{Link, Meaning, link-at, places, with-price}
+use Rattle.chart.specs.Meaning.{Link, Meaning, link-at, places, priced, with-price}
 use Rattle.chart.specs.Questions.{Next, leads-into, leads-out}
-use Rattle.chart.specs.Refusals.{refusal-at}
+use Rattle.chart.specs.Refusals.{Refusal, refusal, refusal-at, unless}
 use Rattle.layer_meaning.specs.Guarded.{guarded, guarded-link, held-at, touched}
 use Rattle.layer_meaning.specs.Heights.{above}
 use Rattle.layer_meaning.specs.Theorems.{Guard-hands-on, Guard-into, Guard-lawful, Guard-links, Guard-out, Guard-refuses, Upper-holds}
 use Rattle.layer_meaning.proofs.Mapped.{each-mapped, link-mapped, next-mapped, numbers-mapped, priced-mapped}
-use Rattle.layer_meaning.proofs.Raised.{above-low, above-marks, above-more, raised}
+use Rattle.layer_meaning.proofs.Raised.{above-low, above-marks, above-more, relinked, set-through}
 
 -- what a test cannot tell of a link that is held stands for each link of a guard
 either-way : {A : Type 0} (F : Option Link → A) (h : ℕ) → ((o : Option Link) → F (held-at h o) ≡ F o) →
@@ -106,33 +106,35 @@ handed-on ps m n p t = (
       (priced-mapped (guarded-link ps (above (m .height))) refl p (m .links) n (priced-free ps (above (m .height)) p (link-at m n) t)),
 )
 
+-- what a price leaves
+pub left-held : (ps : List ℕ) (m : Meaning) (n : ℕ) (p : Price) → touched ps (link-at m n) ≡ true →
+    guarded ps m ≡ unless (refusal (guarded ps m) n p) (guarded ps m) (priced (guarded ps m) n p)
+left-held ps m n p t =
+    ap (λ (r : Option Refusal). unless r (guarded ps m) (priced (guarded ps m) n p)) (sym (refused-held ps m n p t))
+
+pub left-free : (ps : List ℕ) (m : Meaning) (n : ℕ) (p : Price) → touched ps (link-at m n) ≡ false →
+    guarded ps (unless (refusal m n p) m (priced m n p)) ≡ unless (refusal (guarded ps m) n p) (guarded ps m) (priced (guarded ps m) n p)
+left-free ps m n p t = set-through (guarded ps) m n p (handed-on ps m n p t)
+
 pub upper-holds : Upper-holds
 upper-holds ps qs m n t =
+    let low = above (m .height) in
+    let high = above low in
     let below : link-at (guarded qs m) n ≡ guarded-link qs (above (m .height)) (link-at m n) = links-held qs m n in
-    let high = above (above (m .height)) in
     let same : touched ps (link-at (guarded qs m) n) ≡ touched ps (link-at m n) =
-    ap (touched ps) below ∙ either-way (touched ps) (above (m .height)) (touched-held ps (above (m .height))) (touched qs (link-at m n)) (link-at m n) in
+    ap (touched ps) below ∙ either-way (touched ps) low (touched-held ps low) (touched qs (link-at m n)) (link-at m n) in
     held-there ps (guarded qs m) n (same ∙ t) ∙
-    ap (held-at (above (above (m .height)))) below ∙
-    either-way (held-at (above (above (m .height)))) (above (m .height)) (held-again (above (m .height)) (above (above (m .height)))) (touched qs (link-at m n)) (link-at m n)
+    ap (held-at high) below ∙
+    either-way (held-at high) low (held-again low high) (touched qs (link-at m n)) (link-at m n)
 
 -- the laws
 link-held : (k : Kind) (count low high : ℕ) (b : Bool) (o : Option Link) → low ≤ high → Link-law k count low o →
     Link-law k count high (cond b (held-at high o) o)
 link-held k count low high true None le law = tt
 link-held k count low high false None le law = tt
-link-held k count low high false (Some l) le law = raised k count low high l le law
-link-held k count low high true (Some l) le law = record {
-  from-in = law .from-in;
-  to-in = law .to-in;
-  apart = law .apart;
-  floor-open = law .floor-open;
-  floor-above = law .floor-above;
-  floor-fits = law .floor-fits;
-  price-above = refl;
-  price-fits = refl;
-  held-by = omega arith;
-}
+link-held k count low high false (Some l) le law =
+    relinked k count low high l (l .price) (l .held) (law .price-above) (law .price-fits) (omega (arith, law .held-by)) law
+link-held k count low high true (Some l) le law = relinked k count low high l closed high refl refl (omega arith) law
 
 consistent-held : (ps : List ℕ) (m : Meaning) (h : ℕ) (b : Bool) (o : Option Link) → Consistent m o → Consistent (guarded ps m) (cond b (held-at h o) o)
 consistent-held ps m h true None law = tt

@@ -1,13 +1,13 @@
 -- Heights, and prices set through a layer.
 use mathlib.Core.Path.{_≡_, refl, sym, _∙_}
-use mathlib.Core.Bool.{false}
+use mathlib.Core.Bool.{true, false}
 use Prim.Native.Nat.{ℕ, _≤_}
 use native.Mathlib.Omega.{arith}
 use lib.Dec.{eqb}
 use Rattle.std.proofs.shelf.Tests.{ne-eqb}
 use Rattle.std.specs.declared.option.Option.{Option}
 use Rattle.std.specs.declared.option.Option.the-variants.{Some, None}
-use Rattle.rows.specs.Rows.{Kind, Price}
+use Rattle.rows.specs.Rows.{Kind, Price, less, linkable}
 use Rattle.chart.specs.Lawful.{Lawful-link}
 use Rattle.chart.specs.Meaning.{Link, Meaning, priced}
 use Rattle.chart.specs.Refusals.{Refusal, refusal, unless}
@@ -23,18 +23,20 @@ above-more h low = omega arith
 pub above-marks : (h : ℕ) → eqb (above h) 0 ≡ false
 above-marks h = ne-eqb (above h) 0 (λ e. omega arith)
 
--- a link of a chart is one of a higher chart
-pub raised : (k : Kind) (count low high : ℕ) (l : Link) → low ≤ high → Lawful-link k count low l → Lawful-link k count high l
-raised k count low high l le law = record {
+-- a link of a chart, at a price that it may have and with a mark of a higher chart, is one of that chart
+pub relinked : (k : Kind) (count low high : ℕ) (l : Link) (p : Price) (mark : ℕ) →
+    less p (l .floor) ≡ false → linkable k p ≡ true → mark ≤ high → Lawful-link k count low l →
+    Lawful-link k count high (record { from = l .from; to = l .to; floor = l .floor; price = p; held = mark })
+relinked k count low high l p mark above fits le law = record {
   from-in = law .from-in;
   to-in = law .to-in;
   apart = law .apart;
   floor-open = law .floor-open;
   floor-above = law .floor-above;
   floor-fits = law .floor-fits;
-  price-above = law .price-above;
-  price-fits = law .price-fits;
-  held-by = omega (arith, law .held-by);
+  price-above = above;
+  price-fits = fits;
+  held-by = le;
 }
 
 unless-mapped : (F : Meaning → Meaning) (r : Option Refusal) (a b : Meaning) → F (unless r a b) ≡ unless r (F a) (F b)

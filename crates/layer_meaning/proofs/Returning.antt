@@ -15,14 +15,14 @@ use Rattle.std.specs.shelf.Maps.{nth}
 use Rattle.rows.specs.Rows.{Kind, Price, closed, open-at, add-rows, all-below, at-most, less, linkable, row-less, sum, zero-of}
 use Rattle.rows.proofs.Sums.{add-rows-length}
 use Rattle.chart.specs.Lawful.{Consistent, Estimate-law, Link-law, Room}
-use Rattle.chart.specs.Meaning.{Link, Meaning, estimate-at, link-at, places, with-price}
+use Rattle.chart.specs.Meaning.{Link, Meaning, estimate-at, link-at, places, priced, with-price}
 use Rattle.chart.specs.Questions.{Next, leads-into, leads-out}
-use Rattle.chart.specs.Refusals.{refusal-at}
+use Rattle.chart.specs.Refusals.{refusal, refusal-at, unless}
 use Rattle.layer_meaning.specs.Heights.{above}
 use Rattle.layer_meaning.specs.Returned.{returned, reversed}
 use Rattle.layer_meaning.specs.Theorems.{Return-hands-on, Return-into, Return-lawful, Return-links, Return-out}
 use Rattle.layer_meaning.proofs.Mapped.{each-mapped, link-mapped, next-mapped, numbers-mapped, priced-mapped}
-use Rattle.layer_meaning.proofs.Raised.{above-low, above-more}
+use Rattle.layer_meaning.proofs.Raised.{above-low, above-more, set-through}
 
 into-reversed : (p : ℕ) (o : Option Link) → leads-into p (reversed o) ≡ leads-out p o
 into-reversed p None = refl
@@ -62,6 +62,11 @@ handed-on m n p = (
       (λ (ls : List (Option Link)). record { kind = m .kind; start = m .goal; goal = m .start; height = above (m .height); links = ls; estimates = returned m .estimates })
       (priced-mapped reversed refl p (m .links) n (priced-reversed p (link-at m n))),
 )
+
+-- what a price leaves
+pub left : (m : Meaning) (n : ℕ) (p : Price) →
+    returned (unless (refusal m n p) m (priced m n p)) ≡ unless (refusal (returned m) n p) (returned m) (priced (returned m) n p)
+left m n p = set-through returned m n p (handed-on m n p)
 
 -- the answer below, the other way round, is the return's
 pub link-answer : (m : Meaning) (n : ℕ) (o : Option Link) → o ≡ link-at m n → reversed o ≡ link-at (returned m) n
@@ -152,7 +157,6 @@ consistent-reversed m e (Some l) law =
 
 pub lawful-returned : Return-lawful
 lawful-returned m law =
-    let count = places-returned m in
     let high = above (m .height) in
     let up = above-more (m .height) (law .height-low) in
     let zero-here = zero-law (m .kind) (estimate-at m (m .goal)) (law .measured) (law .estimates-law (m .goal) (law .goal-in)) in

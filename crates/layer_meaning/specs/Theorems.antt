@@ -13,30 +13,35 @@ use Rattle.layer_meaning.specs.Guarded.{guarded, guarded-link, held-at, touche
 use Rattle.layer_meaning.specs.Heights.{above}
 use Rattle.layer_meaning.specs.Returned.{returned, reversed}
 
--- the layers keep the laws of a chart
+-- a guard over a lawful chart is lawful, whatever places it lists
 abbrev pub Guard-lawful : Type 0
 Guard-lawful = (ps : List ℕ) (m : Meaning) → Lawful m → Lawful (guarded ps m)
 
+-- a return over a lawful chart is lawful
 abbrev pub Return-lawful : Type 0
 Return-lawful = (m : Meaning) → Lawful m → Lawful (returned m)
 
--- each link is the one below, or held; as many links as below lead into a place and out of it
+-- under each number a guard has the link below, held where it has a listed end
 abbrev pub Guard-links : Type 0
 Guard-links = (ps : List ℕ) (m : Meaning) (n : ℕ) → link-at (guarded ps m) n ≡ guarded-link ps (above (m .height)) (link-at m n)
 
+-- the same links lead into a place as below
 abbrev pub Guard-into : Type 0
 Guard-into = (ps : List ℕ) (m : Meaning) (p : ℕ) → into (guarded ps m) p ≡ into m p
 
+-- and out of it
 abbrev pub Guard-out : Type 0
 Guard-out = (ps : List ℕ) (m : Meaning) (p : ℕ) → out-of (guarded ps m) p ≡ out-of m p
 
--- each link is the one below the other way round; what led out of a place leads into it
+-- under each number a return has the link below, the other way round
 abbrev pub Return-links : Type 0
 Return-links = (m : Meaning) (n : ℕ) → link-at (returned m) n ≡ reversed (link-at m n)
 
+-- the links into a place are those that lead out of it below
 abbrev pub Return-into : Type 0
 Return-into = (m : Meaning) (p : ℕ) → into (returned m) p ≡ out-of m p
 
+-- and those out of it lead into it below
 abbrev pub Return-out : Type 0
 Return-out = (m : Meaning) (p : ℕ) → out-of (returned m) p ≡ into m p
 
