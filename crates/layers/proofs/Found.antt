@@ -32,6 +32,10 @@ pub has-answer : (xs : List ℕ) (p : ℕ) (r : Bool) → Some-of (λ (y : ℕ) 
 has-answer xs p true h = sym (found-among xs p (h .0) (h .1) (h .2 0 .0 refl))
 has-answer xs p false h = sym (missing-among xs p (λ k l e. false≢true (h k 0 (omega arith) l .1 e)))
 
+not-full : (n : ℕ) → n ≤ 64 → eqb n 64 ≡ false → n < 64
+not-full n within e = ⊎-elim (λ (l : n < 64). l) (λ (l : 64 ≤ n). absurd (eqb-false n 64 e (omega arith))) (cases-lt n 64)
+
+-- one more place, where the first n of 64 are listed
 module _ (xs : List ℕ) (n p : ℕ) (whole : length xs ≡ 64) where
   pub full : is-among (take n xs) p ≡ false → eqb n 64 ≡ true → has-room (take n xs) p ≡ false
   full missing e =
@@ -41,13 +45,11 @@ module _ (xs : List ℕ) (n p : ℕ) (whole : length xs ≡ 64) where
 
   pub room : n ≤ 64 → eqb n 64 ≡ false → has-room (take n xs) p ≡ true
   room within e =
-      let less : n ≡ 64 → ⊥ = eqb-false n 64 e in
-      let some : n < 64 = ⊎-elim (λ (l : n < 64). l) (λ (l : 64 ≤ n). absurd (less (omega arith))) (cases-lt n 64) in
+      let some : n < 64 = not-full n within e in
       or-right (is-among (take n xs) p) (ltb (length (take n xs)) 64)
       (lt-ltb (length (take n xs)) 64 (omega (arith, length-take-le n xs (omega arith))))
 
   pub added : n ≤ 64 → is-among (take n xs) p ≡ false → eqb n 64 ≡ false → take (n + 1) (set xs n p) ≡ with-place (take n xs) p
   added within missing e =
-      let less : n ≡ 64 → ⊥ = eqb-false n 64 e in
-      let some : n < 64 = ⊎-elim (λ (l : n < 64). l) (λ (l : 64 ≤ n). absurd (less (omega arith))) (cases-lt n 64) in
+      let some : n < 64 = not-full n within e in
       take-more-set xs n p (omega arith) ∙ sym (cond-false (is-among (take n xs) p) (take n xs) (take n xs ++ (p ∷ [])) missing)

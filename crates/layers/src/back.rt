@@ -1,4 +1,4 @@
-// A return: the way back over a chart.
+// A return: a chart travelled the other way.
 ghost use mathlib.Core.Path.{_≡_};
 ghost use Rattle.chart.specs.Questions.{answered};
 ghost use Rattle.layer_meaning.proofs.Returning.{lawful-returned};
@@ -28,6 +28,7 @@ fn reversed_link<P: PriceKind>(link: Link<P>) -> Link<P>
 }
 
 impl<C: Chart> Return<C> {
+    // The way back over a chart.
     pub fn over(chart: C) -> Return<C>
         ensures { λ r. ⌜ r .chart ≡ chart ⌝ }
     {
