@@ -1,0 +1,4 @@
+pub mod Mapped
+pub mod Raised
+pub mod Guarding
+pub mod Returning

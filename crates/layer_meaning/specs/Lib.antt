@@ -1,0 +1,4 @@
+pub mod Heights
+pub mod Guarded
+pub mod Returned
+pub mod Theorems
