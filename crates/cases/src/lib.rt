@@ -4,4 +4,6 @@ mod files;
 #[cfg(test)]
 mod links;
 #[cfg(test)]
+mod piles;
+#[cfg(test)]
 mod prices;

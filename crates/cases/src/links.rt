@@ -16,9 +16,9 @@ use price::lift::LiftDebug as _;
 use price::lift::LiftPartialEq as _;
 use std::test::*;
 
-const PLACE: PlaceRecord = PlaceRecord { lifts: 77, ms: 78 };
+pub const PLACE: PlaceRecord = PlaceRecord { lifts: 77, ms: 78 };
 
-const LINK: LinkRecord = LinkRecord {
+pub const LINK: LinkRecord = LinkRecord {
     from: 71,
     to: 72,
     floor_lifts: 73,
@@ -27,7 +27,7 @@ const LINK: LinkRecord = LinkRecord {
     price_ms: 76,
 };
 
-fn ms(n: u64) -> Lift {
+pub fn ms(n: u64) -> Lift {
     Lift::from_numbers(&[0, n]).unwrap_or(Lift::Closed)
 }
 
