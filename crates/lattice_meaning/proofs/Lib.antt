@@ -1,0 +1,9 @@
+pub mod Limits
+pub mod Cells
+pub mod Steps
+pub mod Table
+pub mod Lawful
+pub mod Written
+pub mod Rising
+pub mod Lowest
+pub mod Next
