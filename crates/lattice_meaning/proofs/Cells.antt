@@ -6,10 +6,11 @@ use native.Mathlib.Omega.{arith}
 use lib.Dec.{leb, ltb}
 use Rattle.std.proofs.shelf.Bits.{div-add-mod', div-mul-add, mod-mul-add, mul-add-lt}
 use Rattle.std.proofs.shelf.Tests.{and-from, and-parts, le-leb, leb-true, lt-ltb, ltb-true}
+use Rattle.std.specs.declared.option.Option.{Option}
 use Rattle.std.specs.declared.option.Option.the-variants.{Some, None}
 use Rattle.lattice_meaning.specs.Directions.{Direction, turned}
-use Rattle.lattice_meaning.specs.Shape.{Shape, column, neighbour, next-column, next-row, place-count, row, stays-inside}
-use Rattle.lattice_meaning.proofs.Limits.{column-in, row-in}
+use Rattle.lattice_meaning.specs.Shape.{Shape, column, in-limits, neighbour, next-column, next-row, place-count, row, stays-inside}
+use Rattle.lattice_meaning.proofs.Limits.{column-in, limits, row-in}
 
 -- q is the neighbour of p in direction d
 pub record Neighbours (s : Shape) (d : Direction) (p q : ℕ) : Type 0 where
@@ -66,6 +67,13 @@ module _ (s : Shape) (w : 1 ≤ s .width) (d : Direction) (p q : ℕ) where
       (and-from (leb (d .left) (column s p)) (ltb x (s .width)) (le-leb (d .left) (column s p) (n .left-in)) (lt-ltb x (s .width) x-in)))
       (and-from (leb (d .up) (row s p)) (ltb y (s .height)) (le-leb (d .up) (row s p) (n .up-in)) (lt-ltb y (s .height) y-in)))
       ((λ i. sym (n .row-is) i * s .width + sym (n .column-is) i) ∙ div-add-mod' q (s .width))
+
+-- neighbours are places, of which there are few
+pub neighbours-few : (s : Shape) → in-limits s ≡ true → (d : Direction) (p q : ℕ) (o : Option ℕ) → o ≡ neighbour s d p → o ≡ Some q → (p < 4096) × (q < 4096)
+neighbours-few s h d p q o e some =
+    let l = limits s h in
+    let n = neighbours s (l .wide) d p q (sym e ∙ some) in
+    (omega (arith, l .places-few, n .from-in), omega (arith, l .places-few, n .to-in))
 
 -- and p is the neighbour of q the other way
 pub neighbours-turned : (s : Shape) (d : Direction) (p q : ℕ) → Neighbours s d p q → Neighbours s (turned d) q p

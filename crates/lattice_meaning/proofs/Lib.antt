@@ -4,6 +4,7 @@ pub mod Steps
 pub mod Table
 pub mod Lawful
 pub mod Written
+pub mod Accepted
 pub mod Rising
 pub mod Lowest
 pub mod Next

@@ -1,12 +1,14 @@
 -- What the limits of a shape say.
-use mathlib.Core.Path.{_≡_}
-use mathlib.Core.Bool.{Bool, true, _&&_}
-use Prim.Native.Nat.{ℕ, _+_, _-_, _*_, _/_, _%_, _<_, _≤_}
+use mathlib.Core.Path.{_≡_, refl}
+use mathlib.Core.Bool.{Bool, true, false, cond, _&&_}
+use Prim.Native.Nat.{ℕ, _*_, _/_, _%_, _<_, _≤_}
 use native.Mathlib.Omega.{arith}
 use lib.Dec.{leb, ltb}
 use Rattle.std.proofs.shelf.Bits.{div-below, mod-below, mul-le}
 use Rattle.std.proofs.shelf.Tests.{and-parts, leb-true, ltb-true}
-use Rattle.lattice_meaning.specs.Shape.{Shape, in-limits, link-count, place-count}
+use Rattle.chart.specs.Refusals.{Refusal}
+use Rattle.std.specs.declared.option.Option.the-variants.{Some, None}
+use Rattle.lattice_meaning.specs.Shape.{Shape, in-limits, layout-refusal, link-count, place-count}
 
 pub record Limits (s : Shape) : Type 0 where
   pub wide : 1 ≤ s .width
@@ -51,3 +53,14 @@ column-in s w p = mod-below p (s .width) w
 
 pub row-in : (s : Shape) → 1 ≤ s .width → (p : ℕ) → p < place-count s → p / s .width < s .height
 row-in s w p h = div-below p (s .width) (s .height) w (omega arith)
+
+-- what may be laid out
+none-refused : (a b : Bool) (first second : Refusal) → cond a (cond b None (Some second)) (Some first) ≡ None → (a ≡ true) × (b ≡ true)
+none-refused true true first second e = (refl, refl)
+none-refused true false first second e = let z : _≡_ {A = ℕ} 0 1 = cc in absurd (omega arith)
+none-refused false b first second e = let z : _≡_ {A = ℕ} 0 1 = cc in absurd (omega arith)
+
+pub not-refused : (s : Shape) (room : ℕ) → layout-refusal s room ≡ None → (in-limits s ≡ true) × (link-count s ≤ room)
+not-refused s room e =
+    let fit = none-refused (in-limits s) (leb (link-count s) room) (record { by = 2; link = None; height = 0 }) (record { by = 9; link = None; height = 0 }) e in
+    (fit .0, leb-true (link-count s) room (fit .1))

@@ -3,7 +3,8 @@ use mathlib.Core.Path.{_≡_, refl, sym, ap, subst, _∙_}
 use mathlib.Core.Bool.{Bool, true, false, cond, _&&_}
 use mathlib.Core.Logic.{_⊎_, inl, inr, ⊎-elim}
 use mathlib.Core.List.{List}
-use Prim.Native.Nat.{ℕ, zero, suc, _<_, _≤_}
+use Prim.Native.Nat.{ℕ, zero, suc, _+_, _<_, _≤_}
+use native.Mathlib.Numerals.{add-one}
 use native.Mathlib.Omega.{arith}
 use lib.Dec.{leb, ltb}
 use lib.ListN.{getD, length}
@@ -57,12 +58,27 @@ lower-comes k b (Some m) (Some n) e = go (leb k n) (ltb n m) refl e
     go true true h e = let same : n ≡ b = cc in inr (e, omega (arith, leb-true k n h))
 
 module _ (k : ℕ) (f : ℕ → Option ℕ) where
+  lowest-suc : (d : ℕ) → lowest-of k f (suc d) ≡ lower k (lowest-of k f d) (f d)
+  unfolding lowest-of
+  lowest-suc d = refl
+
   covers : (m i n : ℕ) → i < m → f i ≡ Some n → k ≤ n → At-most (lowest-of k f m) n
   unfolding lowest-of
   covers zero i n l e h = absurd (omega arith)
   covers (suc m) i n l e h = ⊎-elim
       (λ (same : i ≡ m). subst (λ (o : Option ℕ). At-most (lower k (lowest-of k f m) o) n) (sym e ∙ ap f same) (lower-takes k n (lowest-of k f m) h))
       (λ (other : i ≡ m → ⊥). lower-keeps k n (lowest-of k f m) (f m) (covers m i n (omega arith) e h)) (cases-eq i m)
+
+  -- a loop that keeps the lowest so far
+  pub lowest-none : None ≡ lowest-of k f 0
+  unfolding lowest-of
+  lowest-none = refl
+
+  pub lowest-more : (d : ℕ) (lowest number after : Option ℕ) → lowest ≡ lowest-of k f d → number ≡ f d → after ≡ lower k lowest number → after ≡ lowest-of k f (d + 1)
+  lowest-more d lowest number after so-far here e = e ∙ (λ i. lower k (so-far i) (here i)) ∙ one-more d
+    where
+      one-more : (d : ℕ) → lower k (lowest-of k f d) (f d) ≡ lowest-of k f (d + 1)
+      one-more d = sym (ap (lowest-of k f) (add-one d) ∙ lowest-suc d)
 
   comes : (m b : ℕ) → lowest-of k f m ≡ Some b → (k ≤ b) × ((i : ℕ) × (i < m) × (f i ≡ Some b))
   unfolding lowest-of

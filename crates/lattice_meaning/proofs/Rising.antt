@@ -9,6 +9,7 @@ use native.Mathlib.Omega.{arith}
 use lib.ListN.{drop, getD, length}
 use Rattle.std.proofs.shelf.Lists.{drop-all, drop-more}
 use Rattle.std.proofs.shelf.Tests.{cases-lt, cond-false, cond-true}
+use Rattle.std.specs.shelf.Maps.{nth}
 use Rattle.std.specs.declared.option.Option.{Option}
 use Rattle.std.specs.declared.option.Option.the-variants.{Some, None}
 use Rattle.chart.specs.Meaning.{Link}
@@ -49,3 +50,31 @@ module _ (test : Option Link → Bool) (ls : List (Option Link)) where
 
   pub next-none : (k : ℕ) → Next test ls k None → from-on k ≡ []
   next-none k next = skipped (length ls) k (λ j a b. next j a) ∙ from-on-past (k + length ls) (omega arith)
+
+  -- counting on from one number to the next: so many are left to count
+  pub nth-first : (n k : ℕ) → Next test ls 0 (Some k) → nth (numbers-from test 0 ls) n ≡ nth (k ∷ from-on (k + 1)) (n - 0)
+  nth-first n k next = (λ i. nth (next-some 0 k next i) (left i))
+    where
+      left : n ≡ n - 0
+      left = omega arith
+
+  pub nth-more : (n i k m : ℕ) → nth (numbers-from test 0 ls) n ≡ nth (k ∷ from-on (k + 1)) (n - i) → i < n → Next test ls (k + 1) (Some m) →
+      nth (numbers-from test 0 ls) n ≡ nth (m ∷ from-on (m + 1)) (n - (i + 1))
+  nth-more n i k m inv l next =
+      let left : n - i ≡ suc (n - (i + 1)) = omega arith in
+      inv ∙ ap (nth (k ∷ from-on (k + 1))) left ∙ ap (λ (xs : List ℕ). nth xs (n - (i + 1))) (next-some (k + 1) m next)
+
+  pub nth-done : (n i k : ℕ) → nth (numbers-from test 0 ls) n ≡ nth (k ∷ from-on (k + 1)) (n - i) → n ≤ i → Some k ≡ nth (numbers-from test 0 ls) n
+  nth-done n i k inv l =
+      let left : n - i ≡ 0 = omega arith in
+      sym (inv ∙ ap (nth (k ∷ from-on (k + 1))) left)
+
+  -- there are no more
+  pub nth-none : (n : ℕ) → Next test ls 0 None → None ≡ nth (numbers-from test 0 ls) n
+  nth-none n next = sym (ap (λ (xs : List ℕ). nth xs n) (next-none 0 next))
+
+  pub nth-last : (n i k : ℕ) → nth (numbers-from test 0 ls) n ≡ nth (k ∷ from-on (k + 1)) (n - i) → i < n → Next test ls (k + 1) None →
+      None ≡ nth (numbers-from test 0 ls) n
+  nth-last n i k inv l next =
+      let left : n - i ≡ suc (n - (i + 1)) = omega arith in
+      sym (inv ∙ ap (nth (k ∷ from-on (k + 1))) left ∙ ap (λ (xs : List ℕ). nth xs (n - (i + 1))) (next-none (k + 1) next))

@@ -53,8 +53,10 @@ written-more s before n l =
     ∙ ap (λ (r : List ℕ). r ++ drop (n + 1) before) (sym (map-counting-more f 0 n n (omega arith)))
 
 -- the numbers in use after that
-pub written-front : (s : Shape) (before : List ℕ) → take (link-count s) (first-prices s ++ drop (link-count s) before) ≡ first-prices s
-written-front s before = take-at (first-prices s) (drop (link-count s) before) (link-count s) (first-long s)
+pub written-front : (s : Shape) (before after : List ℕ) (count : ℕ) → count ≡ link-count s → after ≡ first-prices s ++ drop (link-count s) before →
+    take count after ≡ first-prices s
+written-front s before after count same e =
+    (λ i. take (same i) (e i)) ∙ take-at (first-prices s) (drop (link-count s) before) (link-count s) (first-long s)
 
 repriced : (s : Shape) (n v x : ℕ) (o : Option ℕ) → link-to s n v o ≡ with-price (price-of v) (link-to s n x o)
 repriced s n v x None = refl

@@ -20,6 +20,12 @@ time ms = open-at (ms ∷ [])
 abbrev pub price-of : ℕ → Price
 price-of v = cond (eqb v 0) closed (time v)
 
+-- the number that a price is written as
+abbrev pub number-of : Price → ℕ
+number-of closed = 0
+number-of (open-at []) = 0
+number-of (open-at (ms ∷ more)) = ms
+
 -- how far apart two numbers are
 abbrev pub apart : ℕ → ℕ → ℕ
 apart a b = (a - b) + (b - a)
