@@ -1,0 +1,10 @@
+pub mod Limits
+pub mod Cells
+pub mod Steps
+pub mod Table
+pub mod Lawful
+pub mod Written
+pub mod Accepted
+pub mod Rising
+pub mod Lowest
+pub mod Next
