@@ -2,6 +2,8 @@
 #[cfg(test)]
 mod files;
 #[cfg(test)]
+mod lattices;
+#[cfg(test)]
 mod links;
 #[cfg(test)]
 mod piles;
