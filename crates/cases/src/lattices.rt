@@ -1,4 +1,4 @@
-// The lattice: its sizes, its refusals, and layers over it.
+// The lattice: its sizes and its refusals.
 use chart::Cause;
 use chart::Chart;
 use chart::ChartFault;
@@ -7,10 +7,6 @@ use chart::fault::ChartFaultPartialEq as _;
 use lattice::Lattice;
 use lattice::LatticeChart;
 use lattice::Layout;
-use layers::Guard;
-use layers::GuardChart;
-use layers::Return;
-use layers::ReturnChart;
 use price::PriceKind;
 use price::Time;
 use price::TimeKind;
@@ -55,9 +51,9 @@ fn two_cells_side_by_side() -> Result<(), Fail> {
     check_eq(bed.nth_out(0, 1), None)?;
     check_eq(
         bed.set_price(1, ms(4)),
-        refused(Cause::BadPrice, Some(1), 0),
+        refused(Cause::BadPrice, Some(1)),
     )?;
-    check_eq(bed.set_price(0, ms(5)), refused(Cause::NoLink, Some(0), 0))?;
+    check_eq(bed.set_price(0, ms(5)), refused(Cause::NoLink, Some(0)))?;
     check_eq(bed.set_price(1, Time::Closed), Ok(()))?;
     check(bed.link(8).is_none())
 }
@@ -73,27 +69,27 @@ fn sizes_are_one_to_sixty_four() -> Result<(), Fail> {
     check_eq(bed.nth_into(1, 1), Some(11))?;
     check_eq(
         bed.lay_out(layout(0, 1, 1, 0, 0)),
-        refused(Cause::OutsideLimits, None, 0),
+        refused(Cause::OutsideLimits, None),
     )?;
     check_eq(
         bed.lay_out(layout(65, 1, 1, 0, 0)),
-        refused(Cause::OutsideLimits, None, 0),
+        refused(Cause::OutsideLimits, None),
     )?;
     check_eq(
         bed.lay_out(layout(1, 1, 0, 0, 0)),
-        refused(Cause::OutsideLimits, None, 0),
+        refused(Cause::OutsideLimits, None),
     )?;
     check_eq(
         bed.lay_out(layout(1, 1, 1_000_001, 0, 0)),
-        refused(Cause::OutsideLimits, None, 0),
+        refused(Cause::OutsideLimits, None),
     )?;
     check_eq(
         bed.lay_out(layout(2, 2, 1, 4, 0)),
-        refused(Cause::OutsideLimits, None, 0),
+        refused(Cause::OutsideLimits, None),
     )?;
     check_eq(
         bed.lay_out(layout(64, 64, 1, 0, 0)),
-        refused(Cause::ShortMemory, None, 0),
+        refused(Cause::ShortMemory, None),
     )?;
     check_eq(bed.places(), 64)
 }
@@ -108,21 +104,4 @@ fn the_largest_lattice(rt: LibcRuntime) -> Result<(), Fail> {
     check_eq(bed.estimate(0), Some(ms(1260)))?;
     check_eq(bed.nth_out(65, 3), Some(263))?;
     check_eq(bed.nth_into(65, 0), Some(6))
-}
-
-#[test]
-fn three_layers_over_a_lattice() -> Result<(), Fail> {
-    let mut prices = [0u32; 36];
-    let mut bed = Lattice::over(&mut prices);
-    bed.lay_out(layout(3, 3, 2, 0, 8))?;
-    let mut guard = Guard::over(Return::over(bed));
-    guard.list(4)?;
-    let mut pile = Return::over(guard);
-    check_eq(pile.height(), 3)?;
-    check_eq(pile.start(), 0)?;
-    check_eq(pile.goal(), 8)?;
-    check_eq(pile.estimate(0), Some(Time::zero()))?;
-    check_eq(pile.set_price(16, ms(3)), refused(Cause::Held, Some(16), 2))?;
-    check_eq(pile.set_price(1, ms(3)), Ok(()))?;
-    check_eq(pile.set_price(0, ms(3)), refused(Cause::NoLink, Some(0), 0))
 }

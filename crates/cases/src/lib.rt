@@ -6,6 +6,4 @@ mod lattices;
 #[cfg(test)]
 mod links;
 #[cfg(test)]
-mod piles;
-#[cfg(test)]
 mod prices;
