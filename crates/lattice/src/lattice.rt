@@ -11,6 +11,7 @@ use crate::layout::Layout;
 
 // The first numbers are the prices of its link numbers, 0 where a link is closed or none is. Until it is laid out it
 // is one cell with no link numbers.
+#[derive(Drop)]
 pub struct Lattice<'a> {
     pub(crate) prices: &'a mut [u32],
     pub(crate) layout: Layout,
