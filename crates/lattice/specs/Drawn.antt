@@ -23,6 +23,7 @@ numbers-of c = take (c .«link_count») (now (c .prices))
 abbrev pub chart-of : Lattice → Meaning
 chart-of c = lattice (shape (c .layout)) (numbers-of c)
 
+-- its laws follow from the rules that every value of the type keeps
 pub chart-lawful : (c : Lattice) → Lawful (chart-of c)
 chart-lawful c = lattice-lawful (shape (c .layout)) (numbers-of c) (c .within) (c .counted) (c .priced)
 

@@ -1,4 +1,4 @@
--- The shape that a layout stands for.
+-- Layouts, and the cells of a lattice as the code steps through them.
 use mathlib.Core.Bool.{cond, _&&_}
 use Prim.Native.Nat.{ℕ, _+_, _-_}
 use lib.Dec.{leb}
@@ -8,6 +8,7 @@ use Rattle.lattice_meaning.specs.Directions.{Direction}
 use Rattle.lattice_meaning.specs.Shape.{Shape}
 use Rattle.lattice.specs.declared.layout.Layout.{Layout}
 
+-- the shape that a layout stands for
 abbrev pub shape : Layout → Shape
 shape l = record { width = l .width; height = l .height; least = l .least; start = l .start; goal = l .goal }
 

@@ -5,7 +5,7 @@ ghost use mathlib.Core.List.{_++_};
 ghost use Prim.Native.Nat.{_<_, _≤_};
 ghost use lib.ListN.{drop, length};
 ghost use Rattle.lattice.specs.Layouts.{next-cell, shape};
-ghost use Rattle.lattice_meaning.specs.Directions.{direction};
+ghost use Rattle.lattice_meaning.specs.Directions.{direction, links-per-place};
 ghost use Rattle.lattice_meaning.specs.Prices.{distance, estimates, first-price, first-prices};
 ghost use Rattle.lattice_meaning.specs.Shape.{in-limits, leads-to, link-count, neighbour, place-count};
 ghost use Rattle.price.specs.Kinds.{time-value};
@@ -34,19 +34,13 @@ impl Layout {
             && self.goal < self.places()
     }
 
+    // How many places there are, each with an estimate.
     pub(crate) fn places(self) -> u16
         requires { ⌜ self .width ≤ 64 ⌝ ∗ ⌜ self .height ≤ 64 ⌝ }
-        ensures { λ r. ⌜ r ≡ place-count (shape self) ⌝ }
+        ensures count { λ r. ⌜ r ≡ place-count (shape self) ⌝ }
+        ensures table { λ r. ⌜ r ≡ length (estimates (shape self)) ⌝ }
     {
         self.width * self.height
-    }
-
-    // As many places as the table of estimates has.
-    pub(crate) fn place_count(self) -> u16
-        requires { ⌜ in-limits (shape self) ≡ true ⌝ }
-        ensures { λ r. ⌜ r ≡ length (estimates (shape self)) ⌝ }
-    {
-        self.places()
     }
 
     // How many link numbers there are.
@@ -59,7 +53,7 @@ impl Layout {
 
     // The neighbour of a place in a direction, if it has one.
     pub(crate) fn neighbour(self, place: u16, d: u16) -> Option<u16>
-        requires { ⌜ in-limits (shape self) ≡ true ⌝ ∗ ⌜ d < 4 ⌝ }
+        requires { ⌜ in-limits (shape self) ≡ true ⌝ ∗ ⌜ d < links-per-place ⌝ }
         ensures { λ r. ⌜ r ≡ neighbour (shape self) (direction d) place ⌝ }
     {
         if place >= self.places() {
@@ -127,7 +121,7 @@ impl Layout {
 
 // The cell next to cell (x, y) in a direction, unless a number would fall below 0.
 fn step(x: u16, y: u16, d: u16) -> Option<(u16, u16)>
-    requires { ⌜ x < 64 ⌝ ∗ ⌜ y < 64 ⌝ ∗ ⌜ d < 4 ⌝ }
+    requires { ⌜ x < 64 ⌝ ∗ ⌜ y < 64 ⌝ ∗ ⌜ d < links-per-place ⌝ }
     ensures { λ r. ⌜ r ≡ next-cell (direction d) x y ⌝ }
 {
     match d {

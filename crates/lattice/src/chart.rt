@@ -17,7 +17,7 @@ pub impl<'a> Chart for Lattice<'a> as LatticeChart {
     ghost lawful = { chart-lawful };
 
     fn places(&self) -> u16 {
-        self.layout.place_count()
+        self.layout.places()
     }
 
     fn start(&self) -> u16 {

@@ -16,9 +16,14 @@ pub struct Lattice<'a> {
     pub(crate) prices: &'a mut [u32],
     pub(crate) layout: Layout,
     pub(crate) link_count: u16,
+    // sizes, places and least step are within their limits
     ghost within: { in-limits (shape layout) ≡ true },
+    // the memory is long enough
     ghost room: { «link_count» ≤ length (now prices) },
+    // no more numbers are in use than there are link numbers
     ghost counted: { Counted (shape layout) (take «link_count» (now prices)) },
+    // each is 0, or between the least step and 1,000,000
     ghost priced: { Priced (shape layout) (take «link_count» (now prices)) },
+    // each is 0 where no link is
     ghost unlinked: { Unlinked (shape layout) (take «link_count» (now prices)) },
 }

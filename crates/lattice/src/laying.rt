@@ -45,6 +45,7 @@ impl<'a> Lattice<'a> {
     pub fn over(prices: &'a mut [u32]) -> Lattice<'a>
         ensures meaning { λ r. ⌜ chart-of r ≡ one-place ⌝ }
         ensures memory { λ r. ⌜ now (r .prices) ≡ now (prices .entry) ⌝ }
+        ensures lender { λ r. ⌜ name (r .prices) ≡ name (prices .entry) ⌝ }
     {
         Lattice {
             prices,

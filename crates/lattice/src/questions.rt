@@ -7,6 +7,7 @@ ghost use Rattle.chart.specs.Questions.{Next, answered, numbers-from};
 ghost use Rattle.lattice.specs.Drawn.{Unheld, chart-of};
 ghost use Rattle.lattice.specs.Ends.{at-end, leads-at};
 ghost use Rattle.lattice.specs.Layouts.{shape};
+ghost use Rattle.lattice_meaning.specs.Directions.{links-per-place};
 ghost use Rattle.lattice_meaning.specs.Numbers.{arriving, counted, leaving, lower};
 ghost use Rattle.lattice_meaning.specs.Prices.{price-of};
 ghost use Rattle.price.specs.Kinds.{time-value};
@@ -39,9 +40,11 @@ fn lower(from: u16, lowest: Option<u16>, number: Option<u16>) -> Option<u16>
     let Some(n) = number else {
         return lowest;
     };
+    if n < from {
+        return lowest;
+    }
     match lowest {
-        Some(m) if from > n || n >= m => Some(m),
-        None if from > n => None,
+        Some(m) if m <= n => lowest,
         _ => Some(n),
     }
 }
@@ -87,7 +90,7 @@ impl Lattice<'_> {
 
     // The number of the link that leaves a place in a direction.
     fn leaving(&self, place: u16, d: u16) -> Option<u16>
-        requires { ⌜ d < 4 ⌝ }
+        requires { ⌜ d < links-per-place ⌝ }
         ensures { λ r. ⌜ r ≡ leaving (shape (now (self .entry) .layout)) (now (self .entry) .«link_count») place d ⌝ }
     {
         self.layout.neighbour(place, d)?;
@@ -96,7 +99,7 @@ impl Lattice<'_> {
 
     // The number of the link that comes to a place in a direction, from the neighbour the other way.
     fn arriving(&self, place: u16, d: u16) -> Option<u16>
-        requires { ⌜ d < 4 ⌝ }
+        requires { ⌜ d < links-per-place ⌝ }
         ensures { λ r. ⌜ r ≡ arriving (shape (now (self .entry) .layout)) (now (self .entry) .«link_count») place d ⌝ }
     {
         let from = self.layout
@@ -104,8 +107,9 @@ impl Lattice<'_> {
         self.counted(DIRECTIONS * from + d)
     }
 
+    // The number of the link at a place in a direction.
     fn at_end(&self, end: End, place: u16, d: u16) -> Option<u16>
-        requires { ⌜ d < 4 ⌝ }
+        requires { ⌜ d < links-per-place ⌝ }
         ensures { λ r. ⌜ r ≡ at-end end (shape (now (self .entry) .layout)) (now (self .entry) .«link_count») place d ⌝ }
     {
         match end {

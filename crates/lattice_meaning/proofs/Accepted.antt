@@ -1,7 +1,7 @@
 -- A price that is not refused, and the numbers after it is written.
-use mathlib.Core.Path.{_≡_, refl, sym, ap, subst, _∙_}
+use mathlib.Core.Path.{_≡_, refl, sym, ap, _∙_}
 use mathlib.Core.Bool.{Bool, true, false, cond, not, _&&_, _||_}
-use mathlib.Core.Logic.{_⊎_, ⊎-elim}
+use mathlib.Core.Logic.{⊎-elim}
 use mathlib.Core.List.{List, [], _∷_}
 use Prim.Native.Nat.{ℕ, _<_, _≤_}
 use native.Mathlib.Omega.{arith}
@@ -13,10 +13,10 @@ use Rattle.std.specs.declared.option.Option.{Option}
 use Rattle.std.specs.declared.option.Option.the-variants.{Some, None}
 use Rattle.rows.specs.Rows.{Price, closed, less, linkable, open-at}
 use Rattle.price.specs.Kinds.{time-kind}
-use Rattle.chart.specs.Meaning.{Link, link-at, priced}
-use Rattle.chart.specs.Refusals.{Refusal, refusal, refusal-at}
-use Rattle.lattice_meaning.specs.Prices.{Counted, Priced, Unlinked, lattice, link-named, link-to, links, number-of, price-of, time}
-use Rattle.lattice_meaning.specs.Shape.{Shape, leads-to, link-count}
+use Rattle.chart.specs.Meaning.{Link, priced}
+use Rattle.chart.specs.Refusals.{refusal, refusal-at}
+use Rattle.lattice_meaning.specs.Prices.{Counted, Priced, Unlinked, lattice, link-to, number-of, price-of, time}
+use Rattle.lattice_meaning.specs.Shape.{Shape, leads-to}
 use Rattle.lattice_meaning.proofs.Table.{link-is, link-past}
 use Rattle.lattice_meaning.proofs.Written.{set-priced}
 

@@ -1,9 +1,8 @@
 -- A lattice whose numbers keep the rules is a lawful chart.
 use mathlib.Core.Path.{_≡_, refl, sym, ap, subst, _∙_}
 use mathlib.Core.Bool.{Bool, true, false, cond, _&&_, _||_}
-use mathlib.Core.Logic.{_⊎_, ⊎-elim}
 use mathlib.Core.List.{List, [], _∷_}
-use Prim.Native.Nat.{ℕ, _+_, _*_, _/_, _%_, _^_, _<_, _≤_}
+use Prim.Native.Nat.{ℕ, _+_, _*_, _%_, _^_, _<_, _≤_}
 use native.Mathlib.Omega.{arith}
 use native.Mathlib.Nat.{mul-zero}
 use lib.Dec.{eqb, leb, lit≤, ltb}
@@ -12,12 +11,11 @@ use Rattle.std.proofs.shelf.Bits.{mod-below}
 use Rattle.std.proofs.shelf.Tests.{and-from, and-parts, eqb-true, le-leb, le-ltb, leb-true, lt-ltb}
 use Rattle.std.specs.declared.option.Option.{Option}
 use Rattle.std.specs.declared.option.Option.the-variants.{Some, None}
-use Rattle.rows.specs.Rows.{capped, closed, less, linkable, open-at, sum, zero-of}
+use Rattle.rows.specs.Rows.{capped, closed, less, linkable, sum, zero-of}
 use Rattle.price.specs.Kinds.{time-kind}
-use Rattle.chart.specs.Lawful.{Consistent, Estimate-law, Lawful, Lawful-link, Link-law}
-use Rattle.chart.specs.Meaning.{estimate-at}
-use Rattle.lattice_meaning.specs.Directions.{Direction, direction, links-per-place}
-use Rattle.lattice_meaning.specs.Prices.{Counted, Priced, distance, estimate, lattice, link-named, link-to, price-of, time}
+use Rattle.chart.specs.Lawful.{Consistent, Estimate-law, Lawful, Link-law}
+use Rattle.lattice_meaning.specs.Directions.{direction, links-per-place}
+use Rattle.lattice_meaning.specs.Prices.{Counted, Priced, distance, estimate, lattice, link-to, price-of, time}
 use Rattle.lattice_meaning.specs.Shape.{Shape, in-limits, leads-from, leads-to, place-count}
 use Rattle.lattice_meaning.proofs.Cells.{Neighbours, neighbours}
 use Rattle.lattice_meaning.proofs.Limits.{Limits, limits}

@@ -8,7 +8,7 @@ use native.Mathlib.Numerals.{add-one}
 use native.Mathlib.Omega.{arith}
 use lib.Dec.{leb, ltb}
 use lib.ListN.{getD, length}
-use Rattle.std.proofs.shelf.Tests.{and-parts, cases-bool, cases-eq, leb-false, leb-true, ltb-false, ltb-true}
+use Rattle.std.proofs.shelf.Tests.{cases-bool, cases-eq, leb-false, leb-true, ltb-false, ltb-true}
 use Rattle.std.specs.declared.option.Option.{Option}
 use Rattle.std.specs.declared.option.Option.the-variants.{Some, None}
 use Rattle.chart.specs.Meaning.{Link}

@@ -1,11 +1,11 @@
 -- The link numbers out of a place and into it are those of the directions.
-use mathlib.Core.Path.{_≡_, refl, sym, ap, subst, _∙_}
+use mathlib.Core.Path.{_≡_, refl, sym, ap, _∙_}
 use mathlib.Core.Bool.{Bool, true, false, cond}
-use mathlib.Core.Logic.{_⊎_, ⊎-elim}
+use mathlib.Core.Logic.{⊎-elim}
 use mathlib.Core.List.{List}
-use Prim.Native.Nat.{ℕ, _+_, _*_, _/_, _%_, _<_, _≤_}
+use Prim.Native.Nat.{ℕ, _+_, _*_, _%_, _<_, _≤_}
 use native.Mathlib.Omega.{arith}
-use lib.Dec.{eqb, ltb}
+use lib.Dec.{ltb}
 use lib.ListN.{getD, length}
 use Rattle.std.proofs.shelf.Tests.{both-ways, cases-lt, cond-true, eq-eqb, eqb-true, lt-ltb, ltb-true}
 use Rattle.std.specs.declared.option.Option.{Option}
@@ -14,12 +14,12 @@ use Rattle.chart.specs.Meaning.{Link}
 use Rattle.chart.specs.Questions.{Next, leads-into, leads-out}
 use Rattle.lattice_meaning.specs.Directions.{back, direction, links-per-place, turned}
 use Rattle.lattice_meaning.specs.Numbers.{arriving, counted, leaving, lowest-of, number-from, number-in}
-use Rattle.lattice_meaning.specs.Prices.{link-named, link-to, links}
+use Rattle.lattice_meaning.specs.Prices.{link-to, links}
 use Rattle.lattice_meaning.specs.Shape.{Shape, in-limits, leads-from, leads-to, neighbour}
-use Rattle.lattice_meaning.proofs.Cells.{Neighbours, neighbour-is, neighbours, neighbours-turned}
+use Rattle.lattice_meaning.proofs.Cells.{neighbour-is, neighbours, neighbours-turned}
 use Rattle.lattice_meaning.proofs.Limits.{Limits, limits}
 use Rattle.lattice_meaning.proofs.Lowest.{All-that-pass, next-lowest}
-use Rattle.lattice_meaning.proofs.Steps.{back-in, back-turned}
+use Rattle.lattice_meaning.proofs.Steps.{back-turned}
 use Rattle.lattice_meaning.proofs.Table.{link-is, link-past, links-long}
 
 -- a number of the table that is answered

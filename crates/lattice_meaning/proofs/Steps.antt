@@ -35,9 +35,6 @@ one-step = each-direction (λ d e. One-step e) (refl, (refl, (refl, (refl, tt)))
 pub back-turned : (d : ℕ) → d < links-per-place → turned (direction d) ≡ direction (back d)
 back-turned = each-direction (λ d e. turned e ≡ direction (back d)) (refl, (refl, (refl, (refl, tt))))
 
-pub back-in : (d : ℕ) → d < links-per-place → back d < links-per-place
-back-in d l = omega arith
-
 -- so far back and on, a number is no nearer to a third than by both
 closer : (a b g less more : ℕ) → less ≤ a → b ≡ a + more - less → apart a g ≤ less + more + apart b g
 closer a b g less more l e = let e : b + less ≡ a + more = omega arith in bounded a b g less more e

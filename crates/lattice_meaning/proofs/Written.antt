@@ -1,7 +1,7 @@
 -- Numbers that are written: the first prices, and one price that is set.
 use mathlib.Core.Path.{_≡_, refl, sym, ap, subst, _∙_}
-use mathlib.Core.Bool.{Bool, true, false, cond, _&&_, _||_}
-use mathlib.Core.Logic.{_⊎_, ⊎-elim}
+use mathlib.Core.Bool.{Bool, true, _&&_, _||_}
+use mathlib.Core.Logic.{⊎-elim}
 use mathlib.Core.List.{List, [], _∷_, _++_, append-assoc, map}
 use Prim.Native.Nat.{ℕ, _+_, _<_, _≤_}
 use native.Mathlib.Omega.{arith}
@@ -13,12 +13,12 @@ use Rattle.std.proofs.shelf.Lists.{drop-more, ext-getD, getD-set-other, getD-se
 use Rattle.std.proofs.shelf.Tests.{and-from, cases-eq, le-leb, or-right}
 use Rattle.std.specs.declared.option.Option.{Option}
 use Rattle.std.specs.declared.option.Option.the-variants.{Some, None}
-use Rattle.chart.specs.Meaning.{Link, Meaning, link-at, priced, with-price}
+use Rattle.chart.specs.Meaning.{Link, link-at, priced, with-price}
 use Rattle.price.specs.Kinds.{time-kind}
-use Rattle.lattice_meaning.specs.Prices.{Counted, Priced, Unlinked, estimates, first-price, first-price-to, first-prices, lattice, link-named, link-to, links, price-of}
+use Rattle.lattice_meaning.specs.Prices.{estimates, first-price, first-price-to, first-prices, lattice, link-named, link-to, links, price-of}
 use Rattle.lattice_meaning.specs.Shape.{Shape, in-limits, leads-to, link-count}
 use Rattle.lattice_meaning.specs.Theorems.{First-prices-ruled}
-use Rattle.lattice_meaning.proofs.Limits.{Limits, limits}
+use Rattle.lattice_meaning.proofs.Limits.{limits}
 use Rattle.lattice_meaning.proofs.Table.{link-is, links-long}
 
 abbrev in-range : ℕ → ℕ → Bool

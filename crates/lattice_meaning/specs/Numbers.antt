@@ -11,19 +11,21 @@ use Rattle.lattice_meaning.specs.Shape.{Shape, neighbour}
 abbrev pub counted : ℕ → ℕ → Option ℕ
 counted count n = cond (ltb n count) (Some n) None
 
--- the number of the link in direction d from a place, if there is a neighbour that it leads to
+-- the link number in direction d from place p, if there is a neighbour that it leads to
 abbrev pub number-from : ℕ → ℕ → ℕ → Option ℕ → Option ℕ
 number-from count d p None = None
 number-from count d p (Some to) = counted count (links-per-place * p + d)
 
+-- the link number out of place p in direction d
 abbrev pub leaving : Shape → ℕ → ℕ → ℕ → Option ℕ
 leaving s count p d = number-from count d p (neighbour s (direction d) p)
 
--- the number of the link in direction d from the neighbour, if there is one
+-- the link number in direction d from a neighbour, if there is one
 abbrev pub number-in : ℕ → ℕ → Option ℕ → Option ℕ
 number-in count d None = None
 number-in count d (Some from) = counted count (links-per-place * from + d)
 
+-- the link number into place p in direction d: it comes from the neighbour the other way
 abbrev pub arriving : Shape → ℕ → ℕ → ℕ → Option ℕ
 arriving s count p d = number-in count d (neighbour s (direction (back d)) p)
 

@@ -1,6 +1,6 @@
 -- What a lattice means: a chart of time prices at height 0, worked out from its shape and a number for each link number.
 use mathlib.Core.Path.{_≡_}
-use mathlib.Core.Bool.{Bool, true, cond, _&&_, _||_}
+use mathlib.Core.Bool.{true, cond, _&&_, _||_}
 use mathlib.Core.List.{List, [], _∷_, map}
 use Prim.Native.Nat.{ℕ, _+_, _-_, _*_, _<_, _≤_}
 use lib.Dec.{eqb, leb}
@@ -13,6 +13,7 @@ use Rattle.std.specs.declared.option.Option.{Option}
 use Rattle.std.specs.declared.option.Option.the-variants.{Some, None}
 use Rattle.lattice_meaning.specs.Shape.{Shape, column, leads-from, leads-to, link-count, place-count, row}
 
+-- an open price of so many milliseconds
 abbrev pub time : ℕ → Price
 time ms = open-at (ms ∷ [])
 
@@ -34,10 +35,11 @@ apart a b = (a - b) + (b - a)
 abbrev pub distance : Shape → ℕ → ℕ
 distance s p = apart (column s p) (column s (s .goal)) + apart (row s p) (row s (s .goal))
 
--- the least step for each of them
+-- the estimate of a place: the least step for each of them
 abbrev pub estimate : Shape → ℕ → Price
 estimate s p = time (s .least * distance s p)
 
+-- the table of estimates
 abbrev pub estimates : Shape → List Price
 estimates s = map (estimate s) (counting 0 (place-count s))
 
@@ -50,9 +52,11 @@ link-to s n v (Some to) = Some (record { from = leads-from n; to = to; floor = t
 abbrev pub link-named : Shape → List ℕ → ℕ → Option Link
 link-named s numbers n = link-to s n (getD numbers n 0) (leads-to s n)
 
+-- the table of links, as long as the numbers
 abbrev pub links : Shape → List ℕ → List (Option Link)
 links s numbers = map (link-named s numbers) (counting 0 (length numbers))
 
+-- the chart of a shape and these numbers
 abbrev pub lattice : Shape → List ℕ → Meaning
 lattice s numbers = record {
   kind = time-kind;
@@ -75,18 +79,20 @@ Priced s numbers = (n : ℕ) → n < length numbers → (eqb (getD numbers n 0) 
 abbrev pub Unlinked : Shape → List ℕ → Type 0
 Unlinked s numbers = (n : ℕ) → n < length numbers → leads-to s n ≡ None → getD numbers n 0 ≡ 0
 
--- the first price of a link number: the least step where a link is, else 0
+-- the least step where a link leads to a place, else 0
 abbrev pub first-price-to : Shape → Option ℕ → ℕ
 first-price-to s None = 0
 first-price-to s (Some to) = s .least
 
+-- the first price of a link number
 abbrev pub first-price : Shape → ℕ → ℕ
 first-price s n = first-price-to s (leads-to s n)
 
+-- the numbers of a lattice that was just laid out
 abbrev pub first-prices : Shape → List ℕ
 first-prices s = map (first-price s) (counting 0 (link-count s))
 
--- one cell
+-- the shape of a lattice that is not laid out yet: one cell
 abbrev pub one-cell : Shape
 one-cell = record { width = 1; height = 1; least = 1; start = 0; goal = 0 }
 

@@ -15,9 +15,11 @@ pub record Shape : Type 0 where
   pub start : ℕ
   pub goal : ℕ
 
+-- a place for each cell
 abbrev pub place-count : Shape → ℕ
 place-count s = s .width * s .height
 
+-- a link number for each direction at each place
 abbrev pub link-count : Shape → ℕ
 link-count s = links-per-place * place-count s
 
@@ -28,17 +30,19 @@ in-limits s =
     && (leb 1 (s .least) && leb (s .least) 1000000)
     && (ltb (s .start) (place-count s) && ltb (s .goal) (place-count s))
 
--- cell (x, y) is place y × width + x
+-- cell (x, y) is place y × width + x: x is its column
 abbrev pub column : Shape → ℕ → ℕ
 column s p = p % s .width
 
+-- and y its row
 abbrev pub row : Shape → ℕ → ℕ
 row s p = p / s .width
 
--- the column and the row that a direction leads to
+-- the column that a direction leads to
 abbrev pub next-column : Shape → Direction → ℕ → ℕ
 next-column s d p = column s p + d .right - d .left
 
+-- the row that a direction leads to
 abbrev pub next-row : Shape → Direction → ℕ → ℕ
 next-row s d p = row s p + d .down - d .up
 

@@ -22,6 +22,7 @@ pub record First-prices-ruled (s : Shape) : Type 0 where
   pub priced : Priced s (first-prices s)
   pub unlinked : Unlinked s (first-prices s)
 
+-- of every shape within its limits
 abbrev pub First-ruled : Type 0
 First-ruled = (s : Shape) → in-limits s ≡ true → First-prices-ruled s
 
@@ -33,11 +34,12 @@ One-cell = lattice one-cell [] ≡ one-place
 abbrev pub Set-is-priced : Type 0
 Set-is-priced = (s : Shape) (numbers : List ℕ) (n v : ℕ) → n < length numbers → lattice s (set numbers n v) ≡ priced (lattice s numbers) n (price-of v)
 
--- the next link number out of a place, and into it, is the lowest of those of the directions
+-- the next link number out of a place is the lowest of those of the directions
 abbrev pub Next-out : Type 0
 Next-out = (s : Shape) (numbers : List ℕ) → in-limits s ≡ true → (p k : ℕ) →
     Next (leads-out p) (links s numbers) k (lowest-of k (leaving s (length numbers) p) links-per-place)
 
+-- and so is the next link number into it
 abbrev pub Next-into : Type 0
 Next-into = (s : Shape) (numbers : List ℕ) → in-limits s ≡ true → (p k : ℕ) →
     Next (leads-into p) (links s numbers) k (lowest-of k (arriving s (length numbers) p) links-per-place)
