@@ -28,11 +28,11 @@ fn layout(width: u16, height: u16, least: u32, start: u16, goal: u16) -> Layout 
     }
 }
 
-fn refused(cause: Cause, link: Option<u16>, height: u8) -> Result<(), ChartFault> {
+fn refused(cause: Cause, link: Option<u16>) -> Result<(), ChartFault> {
     Err(ChartFault {
         cause,
         link,
-        height,
+        height: 0,
     })
 }
 
@@ -49,10 +49,7 @@ fn two_cells_side_by_side() -> Result<(), Fail> {
     check_eq(bed.next_out(0, 0), Some(1))?;
     check_eq(bed.next_into(0, 0), Some(7))?;
     check_eq(bed.nth_out(0, 1), None)?;
-    check_eq(
-        bed.set_price(1, ms(4)),
-        refused(Cause::BadPrice, Some(1)),
-    )?;
+    check_eq(bed.set_price(1, ms(4)), refused(Cause::BadPrice, Some(1)))?;
     check_eq(bed.set_price(0, ms(5)), refused(Cause::NoLink, Some(0)))?;
     check_eq(bed.set_price(1, Time::Closed), Ok(()))?;
     check(bed.link(8).is_none())
