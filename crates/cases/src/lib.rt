@@ -6,4 +6,6 @@ mod lattices;
 #[cfg(test)]
 mod links;
 #[cfg(test)]
+mod piles;
+#[cfg(test)]
 mod prices;
