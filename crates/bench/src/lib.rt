@@ -1,4 +1,6 @@
 // The bench: what a planner keeps of each place, and a queue of some of the places, in one lent slice.
+#![tactic(auto)]
+
 mod bench;
 mod changes;
 mod fields;

@@ -1,4 +1,6 @@
 // Benches at both price kinds, over memory that holds garbage.
+#![tactic(auto)]
+
 pub mod fill;
 pub mod lender;
 #[cfg(test)]

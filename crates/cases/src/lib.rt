@@ -1,4 +1,6 @@
 // Tests that are many, in a crate of their own: a crate with tests is proved twice.
+#![tactic(auto)]
+
 #[cfg(test)]
 mod files;
 #[cfg(test)]

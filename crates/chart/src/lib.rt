@@ -1,4 +1,6 @@
 // Charts: places and priced links, as a planner may ask for them.
+#![tactic(auto)]
+
 pub mod chart;
 pub mod fault;
 pub mod link;

@@ -1,4 +1,6 @@
 // The chart file: a drawn chart as bytes, read into records that the caller lends.
+#![tactic(auto)]
+
 mod bytes;
 pub mod check;
 pub mod copy;

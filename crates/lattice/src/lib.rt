@@ -1,4 +1,6 @@
 // The lattice: a chart of cells in columns and rows, over lent prices.
+#![tactic(auto)]
+
 mod cells;
 pub mod chart;
 mod end;

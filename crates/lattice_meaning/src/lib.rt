@@ -1,5 +1,7 @@
 // What a lattice means, and why it is a lawful chart. Nothing runs here; each function states theorems about the
 // definitions in specs/.
+#![tactic(auto)]
+
 ghost use Rattle.lattice_meaning.specs.Theorems.{FirstRuled, LatticesLawful, NextInto, NextOut, OneCell, SetIsPriced};
 
 // Of all sizes, starts, goals and numbers that keep the rules.

@@ -1,5 +1,7 @@
 // Layers over a chart: what each makes of the chart below it, and that the laws hold again. Nothing runs here; each
 // function states theorems about the definitions in specs/.
+#![tactic(auto)]
+
 ghost use Rattle.layer_meaning.specs.Theorems.{GuardHandsOn, GuardInto, GuardLawful, GuardLinks, GuardOut, GuardRefuses, ReturnHandsOn, ReturnInto, ReturnLawful, ReturnLinks, ReturnOut, UpperHolds};
 
 // A guard or a return over a lawful chart is a lawful chart, and so is any pile of them.

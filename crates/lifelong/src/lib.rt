@@ -1,5 +1,7 @@
 // Lifelong Planning A*: what a repair is, and why it is right whatever came before. Nothing runs here; each function
 // states theorems about the definitions in specs/.
+#![tactic(auto)]
+
 ghost use Rattle.lifelong.specs.Bounds.{ClosedWithin, KeysOpen, PricedWithin, RunWithin, StepWithin, SumsOpen};
 ghost use Rattle.lifelong.specs.Examples.{AllHold, PremisesMet, Refused, table};
 ghost use Rattle.lifelong.specs.Run.{RunsJoin};

@@ -1,4 +1,6 @@
 // The chart over lent place records and link records, filled from a chart file.
+#![tactic(auto)]
+
 pub mod chart;
 mod memory;
 pub mod over;

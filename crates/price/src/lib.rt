@@ -1,4 +1,6 @@
 // Prices of links and routes: what a price is, and the two kinds that charts use.
+#![tactic(auto)]
+
 pub mod kind;
 pub mod lift;
 pub mod number;

@@ -1,4 +1,6 @@
 // Prices as rows of numbers, for every kind: nothing runs here. The definitions stand in specs/.
+#![tactic(auto)]
+
 ghost use Rattle.rows.specs.Laws.{TotalOrder, SumLaws};
 
 // Any two prices compare, also rows of unequal length.

@@ -1,4 +1,6 @@
 // Reads a chart file from standard input and says what is on it, or why it is refused.
+#![tactic(auto)]
+
 mod fault;
 mod report;
 mod survey;
