@@ -4,8 +4,8 @@ use Rattle.std.proofs.lemmas.List.{map-set}
 use lib.Seq.{map-set_same}
 use Rattle.bench.proofs.fields.put_index.Goals as goal
 
-pub offset-bounds-records-p : goal.offset-bounds-records-p
-offset-bounds-records-p g c = scaled_Fits c.args.p (length c.args.records.now) _ c.requires (search rules)
+pub offset_bounds-records-p : goal.offset_bounds-records-p
+offset_bounds-records-p g c = scaled_Fits c.args.p (length c.args.records.now) _ c.requires (search rules)
 
 pub returns : goal.returns
 returns g c =

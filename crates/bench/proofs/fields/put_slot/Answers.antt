@@ -4,8 +4,8 @@ use Rattle.std.proofs.lemmas.List.{map-set}
 use lib.Seq.{map-set_same}
 use Rattle.bench.proofs.fields.put_slot.Goals as goal
 
-pub offset-bounds-records-k : goal.offset-bounds-records-k
-offset-bounds-records-k g c = scaled_Fits c.args.k (length c.args.records.now) _ c.requires (search rules)
+pub offset_bounds-records-k : goal.offset_bounds-records-k
+offset_bounds-records-k g c = scaled_Fits c.args.k (length c.args.records.now) _ c.requires (search rules)
 
 pub returns : goal.returns
 returns g c =

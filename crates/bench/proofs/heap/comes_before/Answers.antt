@@ -3,5 +3,5 @@ use Rattle.bench.proofs.Ranked.{tested}
 use Rattle.bench.proofs.heap.comes_before.Goals as goal
 
 pub returns : goal.returns
-returns g c = tested g.K.HeapKey.before (keys c.args.records.now) c.slot-of-p.result c.slot-of-q.result _ _ c.key-of-key.result c.key-of.result c.comes-before.result
-    c.comes-before.ensures c.slot-of-p.ensures c.slot-of-q.ensures c.key-of-key.ensures c.key-of.ensures
+returns g c = tested g.K.HeapKey.before (keys c.args.records.now) c.slot_of-p.result c.slot_of-q.result _ _ c.key_of-key.result c.key_of.result c.comes_before.result
+    c.comes_before.ensures c.slot_of-p.ensures c.slot_of-q.ensures c.key_of-key.ensures c.key_of.ensures

@@ -3,8 +3,8 @@ use Rattle.bench.proofs.Links.{again, names, swap_permutes, swapped}
 use Rattle.bench.proofs.Sifts.{rests, step_up, tops}
 use Rattle.bench.proofs.heap.sift_up.Goals as goal
 
-pub comes-before-requires : goal.comes-before-requires
-comes-before-requires g c =
+pub comes_before-requires : goal.comes_before-requires
+comes_before-requires g c =
     let l = c.loop-at in
     let n = c.args.from + 1 in
     let h = (l.invariant.1 n c.requires (omega arith)).linked in
@@ -37,13 +37,13 @@ loop-at-preserved g c =
       λ n f gap. step_up g.K.HeapKey.before g.K.HeapKey.ordered rs ss n up l.at is (omega arith) s x.kept.0 (l.invariant.2 n f gap),
     )
 
-pub returns-then-not-comes-before : goal.returns-then-not-comes-before
-returns-then-not-comes-before g c =
+pub returns-then-not-comes_before : goal.returns-then-not-comes_before
+returns-then-not-comes_before g c =
     let l = c.loop-at in
     record {
       slot = l.invariant.0;
       permuted = l.invariant.1;
-      under = rests g.K.HeapKey.before g.K.HeapKey.ordered l.records l.at c.parent-up.result c.parent-up.ensures c.if-not-comes-before.ensures;
+      under = rests g.K.HeapKey.before g.K.HeapKey.ordered l.records l.at c.parent-up.result c.parent-up.ensures c.if-not-comes_before.ensures;
       gap = l.invariant.2;
     }
 

@@ -5,13 +5,13 @@ use Rattle.bench.proofs.Prices.{order_kept, queue_added, queue_rekeyed}
 use Rattle.bench.proofs.queue.enqueue.Goals as goal
 
 pub rekey-requires : goal.rekey-requires
-rekey-requires g c = record { linked = c.requires.linked; queued = c.is-queued.ensures.0 c.if-is-queued.true }
+rekey-requires g c = record { linked = c.requires.linked; queued = c.is_queued.ensures.0 c.if-is_queued.true }
 
 pub insert-requires : goal.insert-requires
-insert-requires g c = record { linked = c.requires.linked; inside = c.requires.inside; new = c.is-queued.ensures.1 c.if-is-queued.false }
+insert-requires g c = record { linked = c.requires.linked; inside = c.requires.inside; new = c.is_queued.ensures.1 c.if-is_queued.false }
 
-pub returns-then-is-queued : goal.returns-then-is-queued
-returns-then-is-queued g c =
+pub returns-then-is_queued : goal.returns-then-is_queued
+returns-then-is_queued g c =
     let v = g.P.PriceKind.value in
     let rs = c.args.records.now in
     let ss = c.rekey.new.records in
@@ -20,7 +20,7 @@ returns-then-is-queued g c =
     let e = c.rekey.ensures in
     record {
       linked = e.linked;
-      queued = e.same.into p (c.is-queued.ensures.0 c.if-is-queued.true);
+      queued = e.same.into p (c.is_queued.ensures.0 c.if-is_queued.true);
       others = queue_rekeyed rs ss n p e.same;
       written = column_set (λ r. r.key) (key_of v) rs ss p c.args.key e.rekeyed.0;
       rest = (column_same (λ r. r.standing) v rs ss e.rekeyed.1, column_same (λ r. r.lookahead) v rs ss e.rekeyed.2);

@@ -6,8 +6,8 @@ use Rattle.bench.specs.Keys.{key_of}
 use Rattle.bench.proofs.Prices.{order_same, queue_same}
 use Rattle.bench.proofs.queue.put_standing.Goals as goal
 
-pub offset-bounds-records-place : goal.offset-bounds-records-place
-offset-bounds-records-place g c = scaled_Fits c.args.place (length c.args.records.now) _ c.requires (search rules)
+pub offset_bounds-records-place : goal.offset_bounds-records-place
+offset_bounds-records-place g c = scaled_Fits c.args.place (length c.args.records.now) _ c.requires (search rules)
 
 pub returns : goal.returns
 returns g c =

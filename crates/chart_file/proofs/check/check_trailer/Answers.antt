@@ -16,10 +16,10 @@ outside file t f e h is = go (is_chart file) e
         ap Some is ∙ ap (λ (b : Bool). require b (refuse 2 None)) (sym h ∙ ap (λ (u : Trailer). in_limits u (length file)) same)
     go false e = let z : ◌≡◌ {A = ℕ} 0 1 = cc in absurd (omega arith)
 
-pub returns-then-not-is-within : goal.returns-then-not-is-within
-returns-then-not-is-within c = record {
+pub returns-then-not-is_within : goal.returns-then-not-is_within
+returns-then-not-is_within c = record {
   answer = outside c.args.file.now c.in-Some.trailer _ c.in-Some.ensures
-      (sym c.is-within.ensures ∙ c.if-not-is-within.true) c.fault-then-not-is-within.ensures;
+      (sym c.is_within.ensures ∙ c.if-not-is_within.true) c.fault-then-not-is_within.ensures;
   whole = tt;
   within = tt;
 }

@@ -16,14 +16,14 @@ returns c =
     let file = c.args.file.now in
     let t = c.args.trailer in
     let whole = c.requires.whole in
-    let byte : (i : ℕ) → get_or file i 0 < 256 = λ i. omega (arith, c.type-inv.file i) in
+    let byte : (i : ℕ) → get_or file i 0 < 256 = λ i. omega (arith, c.type_inv.file i) in
     let place_count = ap (λ (u : Trailer). u.places) whole in
     let link_count = ap (λ (u : Trailer). u.links) whole in
-    let place_front = front t.places (place_records file) c.args.places.now c.write-places.new.memory (places_are file byte ∙ sym place_count) c.write-places.ensures in
-    let link_front = front t.links (link_records file) c.args.links.now c.write-links.new.memory (links_are file byte ∙ sym link_count) c.write-links.ensures in
+    let place_front = front t.places (place_records file) c.args.places.now c.write_places.new.memory (places_are file byte ∙ sym place_count) c.write_places.ensures in
+    let link_front = front t.links (link_records file) c.args.links.now c.write_links.new.memory (links_are file byte ∙ sym link_count) c.write_links.ensures in
     record {
-      place-memory = counted t.places (trailer_of file).places place_count (place_records file) c.args.places.now c.write-places.new.memory c.write-places.ensures;
-      link-memory = counted t.links (trailer_of file).links link_count (link_records file) c.args.links.now c.write-links.new.memory c.write-links.ensures;
+      place_memory = counted t.places (trailer_of file).places place_count (place_records file) c.args.places.now c.write_places.new.memory c.write_places.ensures;
+      link_memory = counted t.links (trailer_of file).links link_count (link_records file) c.args.links.now c.write_links.new.memory c.write_links.ensures;
       meaning = λ i. records_mean (whole i).start (whole i).goal (place_front i) (link_front i);
       lawful = drawn_lawful file byte (sym (ap (λ (u : Trailer). in_limits u (length file)) whole) ∙ c.requires.within) c.requires.records;
     }

@@ -31,16 +31,16 @@ found file n l p q b is-l is-p is-q is_b =
     ap (estimate_holds file) (sym is-l)
     ∙ (λ i. keeps_estimate (estimate_of (sym is-p i)) (estimate_of (sym is-q i)) l) ∙ sym is_b
 
-pub returns-then-not-keeps-estimate : goal.returns-then-not-keeps-estimate
-returns-then-not-keeps-estimate c =
+pub returns-then-not-keeps_estimate : goal.returns-then-not-keeps_estimate
+returns-then-not-keeps_estimate c =
     let links = ap (λ (t : Trailer). t.links) c.args.self.whole in
     fails_first (estimate_holds c.args.self.file.now) (link_record c.args.self.file.now) (trailer_of c.args.self.file.now).links
-    c.loop-n.n (omega arith) c.loop-n.invariant (found c.args.self.file.now c.loop-n.n c.link-link.result c.place.result c.place-in-loop-n.result c.keeps-estimate.result
-    c.link-link.ensures c.place.ensures c.place-in-loop-n.ensures c.keeps-estimate.ensures ∙ c.if-not-keeps-estimate.true)
+    c.loop-n.n (omega arith) c.loop-n.invariant (found c.args.self.file.now c.loop-n.n c.link-link.result c.place.result c.place-in-loop-n.result c.keeps_estimate.result
+    c.link-link.ensures c.place.ensures c.place-in-loop-n.ensures c.keeps_estimate.ensures ∙ c.if-not-keeps_estimate.true)
 
 pub loop-n-preserved : goal.loop-n-preserved
-loop-n-preserved c = below_more _ _ c.loop-n.invariant (found c.args.self.file.now c.loop-n.n c.link-link.result c.place.result c.place-in-loop-n.result c.keeps-estimate.result
-    c.link-link.ensures c.place.ensures c.place-in-loop-n.ensures c.keeps-estimate.ensures ∙ c.if-not-keeps-estimate.false)
+loop-n-preserved c = below_more _ _ c.loop-n.invariant (found c.args.self.file.now c.loop-n.n c.link-link.result c.place.result c.place-in-loop-n.result c.keeps_estimate.result
+    c.link-link.ensures c.place.ensures c.place-in-loop-n.ensures c.keeps_estimate.ensures ∙ c.if-not-keeps_estimate.false)
 
 pub returns : goal.returns
 returns c =

@@ -5,16 +5,16 @@ use Rattle.chart_file.specs.declared.trailer.Trailer.{Trailer}
 use Rattle.chart_file.proofs.Lowest.{fails_first, fails_nowhere}
 use Rattle.chart_file.proofs.frame.Frame.bad_link.Goals as goal
 
-pub returns-then-not-keeps-rules : goal.returns-then-not-keeps-rules
-returns-then-not-keeps-rules c =
+pub returns-then-not-keeps_rules : goal.returns-then-not-keeps_rules
+returns-then-not-keeps_rules c =
     let links = ap (λ (t : Trailer). t.links) c.args.self.whole in
     fails_first (keeps_rules c.args.self.trailer.places) (link_record c.args.self.file.now) (trailer_of c.args.self.file.now).links
     c.loop-n.n (omega arith) c.loop-n.invariant
-    (ap (keeps_rules c.args.self.trailer.places) (sym c.link.ensures) ∙ sym c.keeps-rules.ensures ∙ c.if-not-keeps-rules.true)
+    (ap (keeps_rules c.args.self.trailer.places) (sym c.link.ensures) ∙ sym c.keeps_rules.ensures ∙ c.if-not-keeps_rules.true)
 
 pub loop-n-preserved : goal.loop-n-preserved
 loop-n-preserved c = below_more _ _ c.loop-n.invariant
-    (ap (keeps_rules c.args.self.trailer.places) (sym c.link.ensures) ∙ sym c.keeps-rules.ensures ∙ c.if-not-keeps-rules.false)
+    (ap (keeps_rules c.args.self.trailer.places) (sym c.link.ensures) ∙ sym c.keeps_rules.ensures ∙ c.if-not-keeps_rules.false)
 
 pub returns : goal.returns
 returns c =
