@@ -14,7 +14,7 @@ put_slot-requires g c =
     omega arith
 
 -- after the three writes the place is in the first slot that was not used
-written : (g : _) (c : goal.After-restore-arg·1 g) → Added c.args.records.now c.put_index.new.records c.args.used c.args.place
+written : (g : _) (c : goal.After-put_index g) → Added c.args.records.now c.put_index.new.records c.args.used c.args.place
 written g c =
     let w1 = c.put_key.ensures in
     let w2 = c.put_slot.ensures in
