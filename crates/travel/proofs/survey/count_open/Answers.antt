@@ -13,12 +13,12 @@ one_less : (ls : List LinkRecord) (i : ℕ) (b : Bool) → i < length ls → is_
 one_less ls i b l e = at_drop_more open_count ls i no_link l ∙ ap (λ (v : Bool). cond v 1 0 + open_count (drop (i + 1) ls)) e
 
 pub loop-link-preserved : goal.loop-link-preserved
-loop-link-preserved c = elim c.if-is-open.branch [
+loop-link-preserved c = elim c.if-is_open.branch [
   | then-is-open w ↦
-      let e = one_less c.args.links.now c.loop-link.link-index true c.loop-link-test.true (sym c.is-open.ensures ∙ w.if-is-open.true) in
+      let e = one_less c.args.links.now c.loop-link.link-index true c.loop-link-test.true (sym c.is_open.ensures ∙ w.if-is_open.true) in
       (omega (arith, w.count_is), omega (arith, w.count_is))
   | else-is-open w ↦
-      let e = one_less c.args.links.now c.loop-link.link-index false c.loop-link-test.true (sym c.is-open.ensures ∙ w.if-is-open.false) in
+      let e = one_less c.args.links.now c.loop-link.link-index false c.loop-link-test.true (sym c.is_open.ensures ∙ w.if-is_open.false) in
       (omega (arith, w.count_is), omega (arith, w.count_is))
 ]
 

@@ -5,21 +5,21 @@ use Rattle.lattice_meaning.proofs.Written.{first_ruled, written_front}
 use Rattle.lattice.specs.Layouts.{shape}
 use Rattle.lattice.proofs.lattice.Lattice.fill.Goals as goal
 
-pub invariant-of-self : goal.invariant-of-self
-invariant-of-self c =
+pub invariant_of-self : goal.invariant_of-self
+invariant_of-self c =
     let s = shape c.args.layout in
     let fit = not_refused s (length c.args.self.now.prices.now) c.requires in
     let rules = first_ruled s fit.0 in
-    let same : first_prices s ≡ take c.links.result c.write-first-prices.new.prices =
-    sym (written_front s c.args.self.now.prices.now c.write-first-prices.new.prices c.links.result c.links.ensures c.write-first-prices.ensures) in
-    let room : c.links.result ≤ length c.write-first-prices.new.prices = omega (arith, fit.1, c.write-first-prices.auto.prices) in
+    let same : first_prices s ≡ take c.links.result c.write_first_prices.new.prices =
+    sym (written_front s c.args.self.now.prices.now c.write_first_prices.new.prices c.links.result c.links.ensures c.write_first_prices.ensures) in
+    let room : c.links.result ≤ length c.write_first_prices.new.prices = omega (arith, fit.1, c.write_first_prices.auto.prices) in
     (fit.0, (room, (subst (Counted s) same rules.counted, (subst (Priced s) same rules.priced, (subst (Unlinked s) same rules.unlinked, tt)))))
 
 pub returns : goal.returns
 returns c =
     let s = shape c.args.layout in
     record {
-      after = ap (lattice s) (written_front s c.args.self.now.prices.now c.write-first-prices.new.prices c.links.result c.links.ensures c.write-first-prices.ensures);
-      memory = c.write-first-prices.ensures;
+      after = ap (lattice s) (written_front s c.args.self.now.prices.now c.write_first_prices.new.prices c.links.result c.links.ensures c.write_first_prices.ensures);
+      memory = c.write_first_prices.ensures;
       lender = refl;
     }

@@ -20,23 +20,23 @@ returns-then-number-self c =
     let l = c.args.self.now in
     record { answer = sym (link_past (shape l.layout) (numbers_of l) c.args.number (omega (arith, long l))); unheld = tt }
 
-pub returns-in-err-to : goal.returns-in-err-to
-returns-in-err-to c =
+pub returns-in_err-to : goal.returns-in_err-to
+returns-in_err-to c =
     let l = c.args.self.now in
     record {
-      answer = ap (option_map (answered time_value)) c.from-residual.ensures
-          ∙ named_is (shape l.layout) (numbers_of l) c.args.number None (omega (arith, long l)) (sym c.in-err-to.was ∙ c.leads-to.ensures);
-      unheld = subst Unheld (sym c.from-residual.ensures) tt;
+      answer = ap (option_map (answered time_value)) c.from_residual.ensures
+          ∙ named_is (shape l.layout) (numbers_of l) c.args.number None (omega (arith, long l)) (sym c.in_err-to.was ∙ c.leads_to.ensures);
+      unheld = subst Unheld (sym c.from_residual.ensures) tt;
     }
 
 pub returns : goal.returns
 returns c =
     let l = c.args.self.now in
-    let same : time_value c.price-of.result ≡ price_of (get_or (numbers_of l) c.args.number 0) =
-    c.price-of.ensures ∙ ap (λ (n : ℕ). price_of (get_or l.prices.now n 0)) c.from-2.ensures
+    let same : time_value c.price_of.result ≡ price_of (get_or (numbers_of l) c.args.number 0) =
+    c.price_of.ensures ∙ ap (λ (n : ℕ). price_of (get_or l.prices.now n 0)) c.from-2.ensures
     ∙ sym (ap price_of (get_or-take l.link_count l.prices.now c.args.number 0 c.if-number-self.false)) in
     record {
-      answer = (λ i. Some (record { from = leads_from c.args.number; to = c.in-ok-to.to; floor = time (c.from.ensures i); price = same i; held = 0 }))
-          ∙ named_is (shape l.layout) (numbers_of l) c.args.number (Some c.in-ok-to.to) (omega (arith, long l)) (sym c.in-ok-to.was ∙ c.leads-to.ensures);
+      answer = (λ i. Some (record { from = leads_from c.args.number; to = c.in_ok-to.to; floor = time (c.from.ensures i); price = same i; held = 0 }))
+          ∙ named_is (shape l.layout) (numbers_of l) c.args.number (Some c.in_ok-to.to) (omega (arith, long l)) (sym c.in_ok-to.was ∙ c.leads_to.ensures);
       unheld = refl;
     }

@@ -13,7 +13,7 @@ loop-d-init c = lowest_none c.args.from (at_end c.args.end (shape c.args.self.no
 pub loop-d-preserved : goal.loop-d-preserved
 loop-d-preserved c =
     lowest_more c.args.from (at_end c.args.end (shape c.args.self.now.layout) c.args.self.now.link_count c.args.place)
-    c.loop-d.d c.loop-d.lowest c.at-end.result c.lower-lowest.result c.loop-d.invariant c.at-end.ensures c.lower-lowest.ensures
+    c.loop-d.d c.loop-d.lowest c.at_end.result c.lower-lowest.result c.loop-d.invariant c.at_end.ensures c.lower-lowest.ensures
 
 pub returns : goal.returns
 returns c =

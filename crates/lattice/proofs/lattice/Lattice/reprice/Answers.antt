@@ -27,15 +27,15 @@ module _ (l : Lattice) (n : ℕ) (p : Price) (e : refusal (chart_of l) n p ≡ N
 pub bounds-self-from : goal.bounds-self-from
 bounds-self-from c = omega (arith, in_table c.args.self.now c.args.link (time_value c.args.price) c.requires, c.args.self.now.room)
 
-pub invariant-of-self : goal.invariant-of-self
-invariant-of-self c =
+pub invariant_of-self : goal.invariant_of-self
+invariant_of-self c =
     let l = c.args.self.now in
     let s = shape l.layout in
     let p = time_value c.args.price in
     let rules = after l c.args.link p c.requires in
-    let same = written l c.args.link p c.requires c.from.result c.number-of.result c.from.ensures c.number-of.ensures in
-    let room : l.link_count ≤ length (set l.prices.now c.from.result c.number-of.result) =
-    omega (arith, l.room, length-set l.prices.now c.from.result c.number-of.result) in
+    let same = written l c.args.link p c.requires c.from.result c.number_of.result c.from.ensures c.number_of.ensures in
+    let room : l.link_count ≤ length (set l.prices.now c.from.result c.number_of.result) =
+    omega (arith, l.room, length-set l.prices.now c.from.result c.number_of.result) in
     (l.within, (room, (subst (Counted s) same rules.counted, (subst (Priced s) same rules.in_range, (subst (Unlinked s) same rules.unlinked, tt)))))
 
 pub returns : goal.returns
@@ -43,7 +43,7 @@ returns c =
     let l = c.args.self.now in
     let p = time_value c.args.price in
     record {
-      after = sym (ap (lattice (shape l.layout)) (written l c.args.link p c.requires c.from.result c.number-of.result c.from.ensures c.number-of.ensures))
+      after = sym (ap (lattice (shape l.layout)) (written l c.args.link p c.requires c.from.result c.number_of.result c.from.ensures c.number_of.ensures))
           ∙ (after l c.args.link p c.requires).means;
       lender = refl;
     }

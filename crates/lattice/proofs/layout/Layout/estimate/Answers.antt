@@ -13,8 +13,8 @@ returns-then-place-places c = sym (estimate_past (shape c.args.self) c.args.plac
 small : (n m : ℕ) → n ≡ m → m ≤ 126000000 → n < 4294967296
 small n m e l = omega arith
 
-pub overflow-mul-self : goal.overflow-mul-self
-overflow-mul-self c =
+pub overflow_mul-self : goal.overflow_mul-self
+overflow_mul-self c =
     let s = shape c.args.self in
     let same : s.least * c.from.result ≡ s.least * distance s c.args.place = ap (λ (n : ℕ). s.least * n) (c.from.ensures ∙ c.distance.ensures) in
     let most = estimate_most s (limits s c.requires) c.args.place (omega arith) in

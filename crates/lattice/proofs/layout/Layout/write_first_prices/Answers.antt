@@ -5,5 +5,5 @@ use Rattle.lattice.proofs.layout.Layout.write_first_prices.Goals as goal
 
 pub loop-n-preserved : goal.loop-n-preserved
 loop-n-preserved c =
-    (λ i. set (c.loop-n.invariant i) (c.from.ensures i) (c.first-price.ensures i))
+    (λ i. set (c.loop-n.invariant i) (c.from.ensures i) (c.first_price.ensures i))
     ∙ written_more (shape c.args.self) c.args.prices.now c.loop-n.n (omega arith)

@@ -5,5 +5,5 @@ use Rattle.layers.proofs.back.ReturnChart.nth_out.Goals as goal
 
 pub returns : goal.returns
 returns g c =
-    c.nth-into.ensures ∙
+    c.nth_into.ensures ∙
     ap (λ (ns : List ℕ). slice_get ns c.args.n) (sym (out_returned (g.C.Chart.meaning c.args.self.now.chart) c.args.place))

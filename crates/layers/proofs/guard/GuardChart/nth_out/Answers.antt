@@ -6,5 +6,5 @@ use Rattle.layers.proofs.guard.GuardChart.nth_out.Goals as goal
 
 pub returns : goal.returns
 returns g c =
-    c.nth-out.ensures ∙
+    c.nth_out.ensures ∙
     ap (λ (ns : List ℕ). slice_get ns c.args.n) (sym (out_guarded (places_of c.args.self.now.listed) (g.C.Chart.meaning c.args.self.now.chart) c.args.place))

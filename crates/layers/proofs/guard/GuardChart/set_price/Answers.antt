@@ -18,7 +18,7 @@ pub returns : goal.returns
 returns g c =
     let free = sym c.holds.ensures ∙ c.if-holds.false in
     record {
-      answer = c.set-price.ensures.answer ∙ sym (handed_on (places_of c.args.self.now.listed) (g.C.Chart.meaning c.args.self.now.chart) c.args.link (g.C.Price.PriceKind.value c.args.price) free).0;
-      after = ap (guarded (places_of c.args.self.now.listed)) c.set-price.ensures.after ∙ left_free (places_of c.args.self.now.listed) (g.C.Chart.meaning c.args.self.now.chart) c.args.link (g.C.Price.PriceKind.value c.args.price) free;
-      same = λ e. ap (λ x. record { chart = x; listed = c.args.self.now.listed }) (c.set-price.ensures.same e);
+      answer = c.set_price.ensures.answer ∙ sym (handed_on (places_of c.args.self.now.listed) (g.C.Chart.meaning c.args.self.now.chart) c.args.link (g.C.Price.PriceKind.value c.args.price) free).0;
+      after = ap (guarded (places_of c.args.self.now.listed)) c.set_price.ensures.after ∙ left_free (places_of c.args.self.now.listed) (g.C.Chart.meaning c.args.self.now.chart) c.args.link (g.C.Price.PriceKind.value c.args.price) free;
+      same = λ e. ap (λ x. record { chart = x; listed = c.args.self.now.listed }) (c.set_price.ensures.same e);
     }

@@ -2,18 +2,18 @@ use Rattle.std.proofs.Common.{ℕ, ◌<◌, get_or, refl, arith}
 use Rattle.link_chart.proofs.Filled.{link_room_after, links_after, means_drawn, place_room_after, places_after, rules_after}
 use Rattle.link_chart.proofs.over.LinkChart.fill.Goals as goal
 
-pub invariant-of-self : goal.invariant-of-self
-invariant-of-self c =
+pub invariant_of-self : goal.invariant_of-self
+invariant_of-self c =
     let file = c.args.file.now in
-    let byte : (i : ℕ) → get_or file i 0 < 256 = λ i. omega (arith, c.type-inv.file i) in
+    let byte : (i : ℕ) → get_or file i 0 < 256 = λ i. omega (arith, c.type_inv.file i) in
     let t = c.args.trailer in
     let ps = c.args.self.now.places.now in
     let ls = c.args.self.now.links.now in
     let given = c.requires in
-    let R = rules_after file byte t ps _ ls _ given.passed given.accepted c.copy-places.ensures c.copy-links.ensures in (
-      place_room_after file byte t ps _ ls _ given.passed given.accepted c.copy-places.ensures c.copy-links.ensures,
+    let R = rules_after file byte t ps _ ls _ given.passed given.accepted c.copy_places.ensures c.copy_links.ensures in (
+      place_room_after file byte t ps _ ls _ given.passed given.accepted c.copy_places.ensures c.copy_links.ensures,
       (
-        link_room_after file byte t ps _ ls _ given.passed given.accepted c.copy-places.ensures c.copy-links.ensures,
+        link_room_after file byte t ps _ ls _ given.passed given.accepted c.copy_places.ensures c.copy_links.ensures,
         (R.places_few, (R.start_in, (R.goal_in, (R.links_few, (R.small, (R.ruled, (R.goal_zero, (R.estimates, tt)))))))),
       ),
     )
@@ -21,14 +21,14 @@ invariant-of-self c =
 pub returns : goal.returns
 returns c =
     let file = c.args.file.now in
-    let byte : (i : ℕ) → get_or file i 0 < 256 = λ i. omega (arith, c.type-inv.file i) in
+    let byte : (i : ℕ) → get_or file i 0 < 256 = λ i. omega (arith, c.type_inv.file i) in
     let t = c.args.trailer in
     let ps = c.args.self.now.places.now in
     let ls = c.args.self.now.links.now in
     let given = c.requires in
     record {
-      after = means_drawn file byte t ps _ ls _ given.passed given.accepted c.copy-places.ensures c.copy-links.ensures;
-      place-memory = places_after file byte t ps _ ls _ given.passed given.accepted c.copy-places.ensures c.copy-links.ensures;
-      link-memory = links_after file byte t ps _ ls _ given.passed given.accepted c.copy-places.ensures c.copy-links.ensures;
+      after = means_drawn file byte t ps _ ls _ given.passed given.accepted c.copy_places.ensures c.copy_links.ensures;
+      place_memory = places_after file byte t ps _ ls _ given.passed given.accepted c.copy_places.ensures c.copy_links.ensures;
+      link_memory = links_after file byte t ps _ ls _ given.passed given.accepted c.copy_places.ensures c.copy_links.ensures;
       lender = (refl, refl);
     }

@@ -10,16 +10,16 @@ returns-then-place-self c =
     ap (λ (n : ℕ). Some (estimate_of (get_or chart.places.now n no_place))) c.from.ensures
     ∙ estimate_read chart.place_count chart.places.now chart.place_room c.args.place c.if-place-self.true
 
-pub returns-then-place-place-total : goal.returns-then-place-place-total
-returns-then-place-place-total c =
+pub returns-then-place-place_total : goal.returns-then-place-place_total
+returns-then-place-place_total c =
     let chart = c.args.self.now in
     let count = chart.place_count in
     let empty : count ≡ 0 = ⊎_elim (λ (e : count ≡ 0). e)
-    (λ (n : count ≡ 0 → ⊥). absurd (omega (arith, count_filled count chart.places.now chart.place_room n, c.place-total.ensures))) (cases_eq count 0) in
+    (λ (n : count ≡ 0 → ⊥). absurd (omega (arith, count_filled count chart.places.now chart.place_room n, c.place_total.ensures))) (cases_eq count 0) in
     estimate_empty count chart.places.now chart.place_room c.args.place empty
-    (omega (arith, count_empty count chart.places.now chart.place_room empty, c.place-total.ensures))
+    (omega (arith, count_empty count chart.places.now chart.place_room empty, c.place_total.ensures))
 
-pub returns-else-place-place-total : goal.returns-else-place-place-total
-returns-else-place-place-total c =
+pub returns-else-place-place_total : goal.returns-else-place-place_total
+returns-else-place-place_total c =
     let chart = c.args.self.now in
-    estimate_past chart.place_count chart.places.now chart.place_room c.args.place (omega (arith, c.place-total.ensures))
+    estimate_past chart.place_count chart.places.now chart.place_room c.args.place (omega (arith, c.place_total.ensures))

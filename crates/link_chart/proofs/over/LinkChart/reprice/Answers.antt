@@ -36,8 +36,8 @@ bounds-self-from-2 c =
     let l = inside chart.links.now chart.link_count c.args.link chart.link_room (lift_value c.args.price) accepted in
     omega (arith, l, chart.link_room, c.from-2.ensures)
 
-pub invariant-of-self : goal.invariant-of-self
-invariant-of-self c =
+pub invariant_of-self : goal.invariant_of-self
+invariant_of-self c =
     let chart = c.args.self.now in
     let ls = chart.links.now in
     let n = c.args.link in
@@ -45,7 +45,7 @@ invariant-of-self c =
     let ps = place_records chart in
     let v = c.args.price in
     let accepted = c.requires in
-    let e = written ls n c.from.result c.from-2.result (lift_value v) c.with-price-record.result c.from.ensures c.from-2.ensures c.with-price-record.ensures in
+    let e = written ls n c.from.result c.from-2.result (lift_value v) c.with_price-record.result c.from.ensures c.from-2.ensures c.with_price-record.ensures in
     let rest : Rest ps count (set ls n (repriced (get_or ls n no_link) (lift_value v))) = record {
       room = room_after chart.start chart.goal ps ls count n chart.link_room v accepted chart.ruled;
       few = omega (arith, length_after chart.start chart.goal ps ls count n chart.link_room v accepted chart.ruled, chart.links_few);
@@ -58,6 +58,6 @@ invariant-of-self c =
 pub returns : goal.returns
 returns c =
     let chart = c.args.self.now in
-    let e = written chart.links.now c.args.link c.from.result c.from-2.result (lift_value c.args.price) c.with-price-record.result c.from.ensures c.from-2.ensures c.with-price-record.ensures in
+    let e = written chart.links.now c.args.link c.from.result c.from-2.result (lift_value c.args.price) c.with_price-record.result c.from.ensures c.from-2.ensures c.with_price-record.ensures in
     ap (λ (ks : List LinkRecord). records_mean chart.start chart.goal (place_records chart) (take chart.link_count ks)) e
     ∙ priced_after chart.start chart.goal (place_records chart) chart.links.now chart.link_count c.args.link chart.link_room c.args.price c.requires chart.ruled
