@@ -1,8 +1,8 @@
 // The lattice: a chart of cells in columns and rows, over lent prices.
 #![tactic(auto)]
 
+pub mod as_chart;
 mod cells;
-pub mod chart;
 mod end;
 pub mod lattice;
 pub mod laying;

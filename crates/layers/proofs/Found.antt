@@ -20,9 +20,9 @@ missing_among (x ∷ xs) p h =
     (missing_among xs p (λ k l. h (suc k) (omega arith)))
 
 -- what the standard library says of a place that is looked for
-pub has_answer : (xs : List ℕ) (p : ℕ) (r : Bool) → IsAnyAnswer (λ (y : ℕ) (s : Bool). Decides s (y ≡ p)) xs r → r ≡ is_among xs p
-has_answer xs p true h = sym (found_among xs p h.0 h.1 ((h.2 0).0 refl))
-has_answer xs p false h = sym (missing_among xs p (λ k l e. false≢true ((h k 0 (omega arith) l).1 e)))
+pub has_answer : (xs : List ℕ) (p : ℕ) (r : Bool) → IsAnyAnswer (λ (y : ℕ) (s : Bool). eqb y p ≡ s) xs r → r ≡ is_among xs p
+has_answer xs p true h = sym (found_among xs p h.0 h.1 (eqb-true (get_or xs h.0 0) p (h.2 0)))
+has_answer xs p false h = sym (missing_among xs p (λ k l e. eqb-false (get_or xs k 0) p (h k 0 (omega arith) l) e))
 
 not_full : (n : ℕ) → n ≤ 64 → eqb n 64 ≡ false → n < 64
 not_full n within e = ⊎_elim (λ (l : n < 64). l) (λ (l : 64 ≤ n). absurd (eqb-false n 64 e (omega arith))) (cases_lt n 64)

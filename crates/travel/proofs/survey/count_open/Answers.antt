@@ -5,7 +5,7 @@ use Rattle.chart_file.specs.Records.{no_link, price_of}
 use Rattle.chart_file.specs.declared.records.LinkRecord.{LinkRecord}
 use Rattle.travel.specs.Survey.{open_count}
 use Rattle.travel.proofs.survey.count_open.Goals as goal
-use Rattle.travel.proofs.survey.count_open.Goals.{then-is-open, else-is-open}
+use Rattle.travel.proofs.survey.count_open.Goals.{then-is_open, else-is_open}
 
 -- one link less is left, and it is open or not
 one_less : (ls : List LinkRecord) (i : ℕ) (b : Bool) → i < length ls → is_open (price_of (get_or ls i no_link)) ≡ b →
@@ -14,10 +14,10 @@ one_less ls i b l e = at_drop_more open_count ls i no_link l ∙ ap (λ (v : Boo
 
 pub loop-link-preserved : goal.loop-link-preserved
 loop-link-preserved c = elim c.if-is_open.branch [
-  | then-is-open w ↦
+  | then-is_open w ↦
       let e = one_less c.args.links.now c.loop-link.link-index true c.loop-link-test.true (sym c.is_open.ensures ∙ w.if-is_open.true) in
       (omega (arith, w.count_is), omega (arith, w.count_is))
-  | else-is-open w ↦
+  | else-is_open w ↦
       let e = one_less c.args.links.now c.loop-link.link-index false c.loop-link-test.true (sym c.is_open.ensures ∙ w.if-is_open.false) in
       (omega (arith, w.count_is), omega (arith, w.count_is))
 ]

@@ -13,7 +13,13 @@ invariant_of-self c =
     let same : first_prices s ≡ take c.links.result c.write_first_prices.new.prices =
     sym (written_front s c.args.self.now.prices.now c.write_first_prices.new.prices c.links.result c.links.ensures c.write_first_prices.ensures) in
     let room : c.links.result ≤ length c.write_first_prices.new.prices = omega (arith, fit.1, c.write_first_prices.auto.prices) in
-    (fit.0, (room, (subst (Counted s) same rules.counted, (subst (Priced s) same rules.priced, (subst (Unlinked s) same rules.unlinked, tt)))))
+    record {
+      within = fit.0;
+      room = room;
+      counted = subst (Counted s) same rules.counted;
+      priced = subst (Priced s) same rules.priced;
+      unlinked = subst (Unlinked s) same rules.unlinked;
+    }
 
 pub returns : goal.returns
 returns c =

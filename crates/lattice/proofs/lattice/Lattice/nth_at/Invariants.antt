@@ -11,4 +11,4 @@ abbrev pub invariant-loop-i : goal.invariant-loop-i
 invariant-loop-i l =
     (l.number < length (chart_of l.self).links)
     × (slice_get (numbers_from (leads_at l.end l.place) 0 (chart_of l.self).links) l.n
-    ≡ slice_get (l.number ∷ from_on (leads_at l.end l.place) (chart_of l.self).links (l.number + 1)) (l.n - l.-i))
+    ≡ slice_get (l.number ∷ from_on (leads_at l.end l.place) (chart_of l.self).links (l.number + 1)) (l.n - l._i))

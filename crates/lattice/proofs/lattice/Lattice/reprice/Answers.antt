@@ -36,7 +36,13 @@ invariant_of-self c =
     let same = written l c.args.link p c.requires c.from.result c.number_of.result c.from.ensures c.number_of.ensures in
     let room : l.link_count ≤ length (set l.prices.now c.from.result c.number_of.result) =
     omega (arith, l.room, length-set l.prices.now c.from.result c.number_of.result) in
-    (l.within, (room, (subst (Counted s) same rules.counted, (subst (Priced s) same rules.in_range, (subst (Unlinked s) same rules.unlinked, tt)))))
+    record {
+      within = l.within;
+      room = room;
+      counted = subst (Counted s) same rules.counted;
+      priced = subst (Priced s) same rules.in_range;
+      unlinked = subst (Unlinked s) same rules.unlinked;
+    }
 
 pub returns : goal.returns
 returns c =

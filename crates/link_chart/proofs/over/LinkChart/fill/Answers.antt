@@ -10,13 +10,19 @@ invariant_of-self c =
     let ps = c.args.self.now.places.now in
     let ls = c.args.self.now.links.now in
     let given = c.requires in
-    let R = rules_after file byte t ps _ ls _ given.passed given.accepted c.copy_places.ensures c.copy_links.ensures in (
-      place_room_after file byte t ps _ ls _ given.passed given.accepted c.copy_places.ensures c.copy_links.ensures,
-      (
-        link_room_after file byte t ps _ ls _ given.passed given.accepted c.copy_places.ensures c.copy_links.ensures,
-        (R.places_few, (R.start_in, (R.goal_in, (R.links_few, (R.small, (R.ruled, (R.goal_zero, (R.estimates, tt)))))))),
-      ),
-    )
+    let R = rules_after file byte t ps _ ls _ given.passed given.accepted c.copy_places.ensures c.copy_links.ensures in
+    record {
+      place_room = place_room_after file byte t ps _ ls _ given.passed given.accepted c.copy_places.ensures c.copy_links.ensures;
+      link_room = link_room_after file byte t ps _ ls _ given.passed given.accepted c.copy_places.ensures c.copy_links.ensures;
+      places_few = R.places_few;
+      start_in = R.start_in;
+      goal_in = R.goal_in;
+      links_few = R.links_few;
+      small = R.small;
+      ruled = R.ruled;
+      goal_zero = R.goal_zero;
+      estimated = R.estimates;
+    }
 
 pub returns : goal.returns
 returns c =

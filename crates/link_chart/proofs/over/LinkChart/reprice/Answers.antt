@@ -53,7 +53,18 @@ invariant_of-self c =
       estimated = estimated_after chart.start chart.goal ps ls count n chart.link_room v accepted chart.ruled chart.estimated;
     } in
     let R = subst (Rest ps count) (sym e) rest in
-    (chart.place_room, (R.room, (chart.places_few, (chart.start_in, (chart.goal_in, (R.few, (chart.small, (R.ruled, (chart.goal_zero, (R.estimated, tt))))))))))
+    record {
+      place_room = chart.place_room;
+      link_room = R.room;
+      places_few = chart.places_few;
+      start_in = chart.start_in;
+      goal_in = chart.goal_in;
+      links_few = R.few;
+      small = chart.small;
+      ruled = R.ruled;
+      goal_zero = chart.goal_zero;
+      estimated = R.estimated;
+    }
 
 pub returns : goal.returns
 returns c =
