@@ -16,10 +16,10 @@ pub loop-link-preserved : goal.loop-link-preserved
 loop-link-preserved c = elim c.if-is_open.branch [
   | then-is_open w ↦
       let e = one_less c.args.links.now c.loop-link.link-index true c.loop-link-test.true (sym c.is_open.ensures ∙ w.if-is_open.true) in
-      (omega (arith, w.count_is), omega (arith, w.count_is))
+      (omega (arith, w.count-is), omega (arith, w.count-is))
   | else-is_open w ↦
       let e = one_less c.args.links.now c.loop-link.link-index false c.loop-link-test.true (sym c.is_open.ensures ∙ w.if-is_open.false) in
-      (omega (arith, w.count_is), omega (arith, w.count_is))
+      (omega (arith, w.count-is), omega (arith, w.count-is))
 ]
 
 pub returns : goal.returns

@@ -20,18 +20,18 @@ overflow_add-number c = omega (arith, (chart_lawful c.args.self.now).links_few, 
 pub returns-in_err-number-2 : goal.returns-in_err-number-2
 returns-in_err-number-2 c =
     c.from_residual-in_err-number-2.ensures
-    ∙ nth_last (leads_at c.args.end c.args.place) (chart_of c.args.self.now).links c.args.n c.loop-i.-i c.loop-i.number
+    ∙ nth_last (leads_at c.args.end c.args.place) (chart_of c.args.self.now).links c.args.n c.loop-i._i c.loop-i.number
     c.loop-i.invariant.1 c.loop-i-test.true c.in_err-number-2.ensures
 
 pub loop-i-preserved : goal.loop-i-preserved
 loop-i-preserved c =
     let next = c.in_ok-number-2.ensures in (
       next.1,
-      nth_more (leads_at c.args.end c.args.place) (chart_of c.args.self.now).links c.args.n c.loop-i.-i c.loop-i.number
+      nth_more (leads_at c.args.end c.args.place) (chart_of c.args.self.now).links c.args.n c.loop-i._i c.loop-i.number
           c.in_ok-number-2.number c.loop-i.invariant.1 c.loop-i-test.true next,
     )
 
 pub returns : goal.returns
 returns c =
-    nth_done (leads_at c.args.end c.args.place) (chart_of c.args.self.now).links c.args.n c.loop-i.-i c.loop-i.number
+    nth_done (leads_at c.args.end c.args.place) (chart_of c.args.self.now).links c.args.n c.loop-i._i c.loop-i.number
     c.loop-i.invariant.1 (omega arith)
