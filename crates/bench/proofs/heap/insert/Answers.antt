@@ -4,7 +4,6 @@ use Rattle.bench.proofs.Inserts.{insert_gap, inserted}
 use Rattle.bench.proofs.Links.{added_permuted, kept_again, rekeyed_kept}
 use Rattle.bench.proofs.Pigeons.{fewer}
 use Rattle.bench.proofs.heap.insert.Goals as goal
-use Rattle.bench.proofs.heap.insert.Goals.{After-put_index}
 
 pub put_slot-requires : goal.put_slot-requires
 put_slot-requires g c =
@@ -15,7 +14,7 @@ put_slot-requires g c =
     omega arith
 
 -- after the three writes the place is in the first slot that was not used
-written : (g : _) (c : After-put_index g) → Added c.args.records.now c.put_index.new.records c.args.used c.args.place
+written : (g : _) (c : goal.After-restore-arg-1 g) → Added c.args.records.now c.put_index.new.records c.args.used c.args.place
 written g c =
     let w1 = c.put_key.ensures in
     let w2 = c.put_slot.ensures in
