@@ -13,6 +13,7 @@ use chart_file::Trailer;
 use fault::TravelFault;
 use std::io;
 use std::io::Read;
+use std::process::ExitCode;
 use survey::{LONGEST_FILE, survey};
 
 // The input, or as much of it as shows that it is too long.
@@ -74,10 +75,12 @@ fn run(rt: &HostRuntime) -> anyhow::Result<()> {
     Ok(())
 }
 
-fn main(rt: HostRuntime) -> anyhow::Result<()> {
-    let answer = run(&rt);
-    if let Err(error) = &answer {
-        eprintln!(rt; "travel: {error}")?;
+fn main(rt: HostRuntime) -> ExitCode {
+    match run(&rt) {
+        Ok(()) => ExitCode::SUCCESS,
+        Err(error) => {
+            let _ = eprintln!(rt; "travel: {error}");
+            ExitCode::FAILURE
+        }
     }
-    answer
 }
