@@ -1,5 +1,5 @@
 -- What a chart means, whatever it is made of. Two charts mean the same when all of this is equal.
-use Rattle.std.specs.Prelude.{ℕ, List, length, set, Some, None, Option, slice_index_or, slice_set}
+use Rattle.std.specs.Prelude.{ℕ, List, length, Some, None, Option, slice_index_or, slice_set}
 use Rattle.rows.specs.Rows.{Kind, Price, closed}
 
 -- link: an edge. Its floor is the least price that it may be set to; its held mark is 0, or the height of the

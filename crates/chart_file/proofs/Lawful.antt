@@ -1,5 +1,5 @@
 -- Records that keep the rules are a lawful chart.
-use Rattle.std.proofs.Common.{◌≡◌, ℕ, ◌^◌, ◌<◌, ◌≤◌, true, eqb, ◌⊎◌, List, map, length, get_or, Some, None, Option, sym, refl, ◌∙◌, subst, ⊎_elim, arith, lit≤}
+use Rattle.std.proofs.Common.{◌≡◌, ℕ, ◌^◌, ◌<◌, ◌≤◌, true, eqb, List, map, length, Some, None, Option, sym, refl, ◌∙◌, subst, ⊎_elim, arith, lit≤}
 use Rattle.std.proofs.lemmas.List.{get_or-map, get_or_past, length-map}
 use Rattle.std.proofs.lemmas.Bool.{and_parts, cases_lt, eqb-true, not-true}
 use Rattle.rows.specs.Rows.{closed, less, sum, zero_of}

@@ -1,7 +1,7 @@
 -- Places that are looked for among the listed ones, and listed too.
-use Rattle.std.proofs.Common.{◌≡◌, ℕ, zero, suc, ◌+◌, ◌<◌, ◌≤◌, Bool, true, false, eqb, ltb, ◌⊎◌, List, [], ◌∷◌, ◌++◌, length, get_or, take, set, Decides, sym, refl, ◌∙◌, ⊎_elim, arith}
+use Rattle.std.proofs.Common.{◌≡◌, ℕ, zero, suc, ◌+◌, ◌<◌, ◌≤◌, Bool, true, false, eqb, ltb, List, [], ◌∷◌, ◌++◌, length, get_or, take, set, sym, refl, ◌∙◌, ⊎_elim, arith}
 use Rattle.std.proofs.lemmas.List.{length-take-le, take_more_set}
-use Rattle.std.proofs.lemmas.Bool.{cases_lt, cond-false, eq-eqb, eqb-false, eqb-true, false≢true, le-ltb, lt-ltb, ne_eqb, or_from, or_left, or_right}
+use Rattle.std.proofs.lemmas.Bool.{cases_lt, cond-false, eq-eqb, eqb-false, eqb-true, le-ltb, lt-ltb, ne_eqb, or_from, or_left, or_right}
 use Rattle.std.specs.List.{IsAnyAnswer}
 use Rattle.layer_meaning.specs.Guarded.{is_among}
 use Rattle.layers.specs.Listing.{has_room, with_place}

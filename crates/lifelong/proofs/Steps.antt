@@ -1,5 +1,5 @@
 -- What one step does: a lowered place gets its true distance, a true standing is never taken, and bounds stay.
-use Rattle.std.proofs.Common.{◌≡◌, ℕ, ◌<◌, ◌≤◌, true, false, ◌⊎◌, List, length, Some, ap, ⊎_elim, arith}
+use Rattle.std.proofs.Common.{◌≡◌, ℕ, ◌<◌, ◌≤◌, true, false, List, length, Some, ap, ⊎_elim, arith}
 use Rattle.std.proofs.lemmas.Bool.{cases_Bool, cases_eq}
 use Rattle.rows.specs.Rows.{Price, closed, less}
 use Rattle.rows.specs.Keys.{key_less}
