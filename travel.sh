@@ -3,10 +3,13 @@
 #   ./travel.sh charts/three-places.chart
 set -euo pipefail
 chart=$(realpath "${1:?usage: ./travel.sh CHART-FILE}")
-cd "$(dirname "$0")"
-mkdir -p target
-rt check travel > target/travel.log 2>&1 || {
-  echo "travel is not proved; see target/travel.log" >&2
+cd "$(dirname "$0")/crates/travel"
+mkdir -p out
+log=$(mktemp)
+rt run < stdin > "$log" 2>&1 || {
+  mv "$log" out/travel.log
+  echo "travel is not proved; see crates/travel/out/travel.log" >&2
   exit 1
 }
-exec target/bin/travel < "$chart"
+rm -f "$log"
+exec out/travel < "$chart"
