@@ -3,7 +3,9 @@ mod Heaps
 mod Ranked
 mod Slots
 mod Links
+mod Stays
 mod Pigeons
+mod Past
 mod Sifts
 mod Inserts
 mod Prices

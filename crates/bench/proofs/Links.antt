@@ -5,7 +5,7 @@ use Rattle.std.proofs.lemmas.Bool.{cases_eq}
 use Rattle.std.proofs.lemmas.List.Edits.{Swapped, swap_is, swapped_from_swap}
 use Rattle.bench.specs.declared.record.Record.{Record}
 use Rattle.bench.specs.Records.{Exchanged, Kept, in_slot, index_of, indexes, slots}
-use Rattle.bench.specs.Queue.{Added, Linked, Names, Permuted, Queued, Rekeyed, Removed, SamePlaces}
+use Rattle.bench.specs.Queue.{Added, Linked, Names, Permuted, Queued, QueuedBelow, Rekeyed, Removed, SamePlaces}
 use Rattle.bench.proofs.Slots as by_number
 
 module _ {P K : Type 0} (rs : List (Record P K)) where
@@ -31,6 +31,9 @@ module _ {P K : Type 0} (rs : List (Record P K)) where
   -- the place in a used slot is queued
   pub slot_queued : (n k : ℕ) → Linked rs n → k < n → Queued rs n (in_slot rs k)
   slot_queued n k h l = let e = h.back k l in (subst (λ m. m < n) (sym e) l, ap (in_slot rs) e)
+
+  pub slots_below : (n m : ℕ) → Linked rs n → QueuedBelow rs n m → (k : ℕ) → k < n → in_slot rs k < m
+  slots_below n m h w k l = w (in_slot rs k) (slot_queued n k h l)
 
 module _ {P K : Type 0} (rs ss : List (Record P K)) where
   long : Kept rs ss → length ss ≡ length rs

@@ -42,6 +42,10 @@ pigeons (suc m) n F b inj = ⊎_elim
     let r = pigeons m (n - 1) (squeeze F m (n - 1)) (squeezed F m (n - 1) c i) (squeeze_apart F m (n - 1) c i) in omega arith)
     (λ l. omega arith) (cases_lt 0 n)
 
+-- where all queued places are below m, so are the used slots
+pub used_at_most : {P K : Type 0} (rs : List (Record P K)) (n m : ℕ) → Linked rs n → ((k : ℕ) → k < n → in_slot rs k < m) → n ≤ m
+used_at_most rs n m h b = pigeons m n (in_slot rs) b (λ k l lk ll e. sym (h.back k lk) ∙ ap (index_of rs) e ∙ h.back l ll)
+
 -- F with p at n
 abbrev then_at : (ℕ → ℕ) → ℕ → ℕ → ℕ → ℕ
 then_at F n p k = cond (eqb k n) p (F k)

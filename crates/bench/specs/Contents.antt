@@ -1,9 +1,11 @@
--- What a bench holds, as a planner speaks of it. Free besides: which slot a queued place is in, the unused slots,
--- and the indexes of places that are not queued.
-use Rattle.std.specs.Prelude.{ℕ, Bool, ◌&&◌, List, length, nat_lt}
+-- What a bench holds, as a planner speaks of it. Free besides, below the places in use: which slot a queued place is
+-- in, the unused slots, and the indexes of places that are not queued.
+use Rattle.std.specs.Prelude.{ℕ, ◌<◌, Bool, ◌&&◌, List, length, drop, nat_lt}
 use Rattle.rows.specs.Rows.{Price}
 use Rattle.rows.specs.Keys.{Key}
 use Rattle.bench.specs.declared.bench.Bench.{Bench}
+use Rattle.bench.specs.declared.key.Key.{Key as PriceKey}
+use Rattle.bench.specs.declared.record.Record.{Record}
 use Rattle.bench.specs.Queue.{Queued}
 use Rattle.bench.specs.Prices.{LeastIn, Others, SortedIn, keys_in, lookaheads_in, standings_in}
 
@@ -23,9 +25,17 @@ lookaheads v b = lookaheads_in v b.records.now
 abbrev pub keys : {P : Type 0} → (P → Price) → Bench P → List Key
 keys v b = keys_in v b.records.now
 
+-- the records from place n on, whole: standing, lookahead, key, slot and index
+abbrev pub past : {P : Type 0} → ℕ → Bench P → List (Record P (PriceKey P))
+past n b = drop n b.records.now
+
 -- place p is in the queue
 abbrev pub Waits : {P : Type 0} → Bench P → ℕ → Type 0
 Waits b p = Queued b.records.now b.used p
+
+-- only places below n are queued
+abbrev pub Below : {P : Type 0} → ℕ → Bench P → Type 0
+Below n b = (q : ℕ) → Waits b q → q < n
 
 -- may place p be queued? It is one of the records, and one that a chart may have.
 abbrev pub can_wait : {P : Type 0} → Bench P → ℕ → Bool

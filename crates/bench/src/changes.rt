@@ -1,8 +1,9 @@
 // What a planner does to a bench. Every call leaves alone what its contract does not name: the lender's memory is the
 // same slice, and the number and the length stay. Only the order of the queued places among the slots, the unused
-// slots and the indexes of places that are not queued are free.
-ghost use Rattle.std.specs.Prelude.{◌≡◌, ℕ, true, false, nat_lt, slice_set};
-ghost use Rattle.bench.specs.Contents.{SameBut, SameQueue, Sorted, Waits, can_wait, keys as kept_keys, lookaheads, room, standings};
+// slots and the indexes of places that are not queued are free, and these only up to the places in use: where no place
+// from n on is queued or named in the call, the records from n on stay as they were, whole.
+ghost use Rattle.std.specs.Prelude.{◌≡◌, ℕ, ◌<◌, true, false, nat_lt, slice_set};
+ghost use Rattle.bench.specs.Contents.{Below, SameBut, SameQueue, Sorted, Waits, can_wait, keys as kept_keys, lookaheads, past, room, standings};
 ghost use Rattle.bench.specs.Keys.{key_of};
 
 use crate::bench::{Bench, MOST_PLACES};
@@ -35,6 +36,7 @@ impl<'a, P: PriceKind> Bench<'a, P> {
         ensures rest { (lookaheads P.PriceKind.value self.new ≡ lookaheads P.PriceKind.value self.old) × (kept_keys P.PriceKind.value self.new ≡ kept_keys P.PriceKind.value self.old) }
         ensures queue { SameQueue self.old self.new }
         ensures order { Sorted P.PriceKind.value self.old → Sorted P.PriceKind.value self.new }
+        ensures past { (n : ℕ) → place < n → past n self.new ≡ past n self.old }
     {
         if place as usize >= self.records.len() {
             return false;
@@ -53,6 +55,7 @@ impl<'a, P: PriceKind> Bench<'a, P> {
         ensures rest { (standings P.PriceKind.value self.new ≡ standings P.PriceKind.value self.old) × (kept_keys P.PriceKind.value self.new ≡ kept_keys P.PriceKind.value self.old) }
         ensures queue { SameQueue self.old self.new }
         ensures order { Sorted P.PriceKind.value self.old → Sorted P.PriceKind.value self.new }
+        ensures past { (n : ℕ) → place < n → past n self.new ≡ past n self.old }
     {
         if place as usize >= self.records.len() {
             return false;
@@ -81,6 +84,7 @@ impl<'a, P: PriceKind> Bench<'a, P> {
         ensures rest { (standings P.PriceKind.value self.new ≡ standings P.PriceKind.value self.old) × (lookaheads P.PriceKind.value self.new ≡ lookaheads P.PriceKind.value self.old) }
         ensures queue { (SameBut self.old self.new place) × ((result ≡ true → Waits self.new place)) }
         ensures order { Sorted P.PriceKind.value self.old → Sorted P.PriceKind.value self.new }
+        ensures past { (n : ℕ) → place < n → Below n self.old → past n self.new ≡ past n self.old }
     {
         if !self.can_queue(place) {
             return false;
@@ -98,6 +102,7 @@ impl<'a, P: PriceKind> Bench<'a, P> {
         ensures rest { (standings P.PriceKind.value self.new ≡ standings P.PriceKind.value self.old) × ((lookaheads P.PriceKind.value self.new ≡ lookaheads P.PriceKind.value self.old) × (kept_keys P.PriceKind.value self.new ≡ kept_keys P.PriceKind.value self.old)) }
         ensures queue { (SameBut self.old self.new place) × ((Waits self.new place → ⊥)) }
         ensures order { Sorted P.PriceKind.value self.old → Sorted P.PriceKind.value self.new }
+        ensures past { (n : ℕ) → Below n self.old → past n self.new ≡ past n self.old }
     {
         if !self.is_queued(place) {
             return false;
@@ -113,6 +118,7 @@ impl<'a, P: PriceKind> Bench<'a, P> {
         ensures rest { (standings P.PriceKind.value self.new ≡ standings P.PriceKind.value self.old) × ((lookaheads P.PriceKind.value self.new ≡ lookaheads P.PriceKind.value self.old) × (kept_keys P.PriceKind.value self.new ≡ kept_keys P.PriceKind.value self.old)) }
         ensures queue { (q : ℕ) → Waits self.new q → ⊥ }
         ensures order { Sorted P.PriceKind.value self.new }
+        ensures past { (n : ℕ) → past n self.new ≡ past n self.old }
     {
         self.used = 0;
     }

@@ -2,8 +2,8 @@
 // Slot k has its children in slots 2k + 1 and 2k + 2. Places do not move: slots and indexes do.
 ghost use Rattle.std.specs.Prelude.{◌≡◌, ℕ, ◌+◌, ◌*◌, ◌<◌, ◌≤◌, length};
 ghost use Rattle.bench.specs.Heap.{Child};
-ghost use Rattle.bench.specs.Queue.{Added, Linked, Names, Permuted, Queued, Rekeyed, Removed, SamePlaces};
-ghost use Rattle.bench.specs.Records.{Exchanged, Kept, in_slot, keys};
+ghost use Rattle.bench.specs.Queue.{Added, Linked, Names, Permuted, Queued, QueuedBelow, Rekeyed, Removed, SamePlaces, StaysPast};
+ghost use Rattle.bench.specs.Records.{Exchanged, Kept, SamePast, in_slot, keys};
 ghost use Rattle.bench.specs.Sorted.{FirstOf, GapAt, InOrder, UnderAt, ahead};
 
 use crate::fields::{index_of, key_of, put_index, put_key, put_slot, slot_of};
@@ -51,6 +51,7 @@ fn sift_up<P, K: HeapKey>(records: &mut [Record<P, K>], from: usize) -> usize
     ensures permuted { (n : ℕ) → Linked records.old n → from < n → Permuted records.old records.new n }
     ensures under { UnderAt K.HeapKey.before records.new result }
     ensures gap { (n : ℕ) → from < n → GapAt K.HeapKey.before records.old from n → GapAt K.HeapKey.before records.new result n }
+    ensures past { (n : ℕ) → Linked records.old n → from < n → StaysPast records.old records.new n }
 {
     let mut at = from;
     while at > 0 {
@@ -86,6 +87,7 @@ fn sift_down<P, K: HeapKey>(records: &mut [Record<P, K>], used: usize, from: usi
     requires slot { from < used }
     ensures permuted { Permuted records.old records.new used }
     ensures order { GapAt K.HeapKey.before records.old from used → UnderAt K.HeapKey.before records.old from → InOrder K.HeapKey.before records.new used }
+    ensures past { StaysPast records.old records.new used }
 {
     let mut at = from;
     while at * 2 + 1 < used {
@@ -104,6 +106,7 @@ fn restore<P, K: HeapKey>(records: &mut [Record<P, K>], used: usize, at: usize)
     requires slot { at < used }
     ensures permuted { Permuted records.old records.new used }
     ensures order { GapAt K.HeapKey.before records.old «at» used → InOrder K.HeapKey.before records.new used }
+    ensures past { StaysPast records.old records.new used }
 {
     let moved = sift_up(records, at);
     sift_down(records, used, moved);
@@ -117,6 +120,7 @@ pub(crate) fn insert<P, K: HeapKey>(records: &mut [Record<P, K>], used: usize, p
     ensures added { Added records.old records.new used place }
     ensures rekeyed { Rekeyed records.old records.new place key }
     ensures order { InOrder K.HeapKey.before records.old used → InOrder K.HeapKey.before records.new (used + 1) }
+    ensures past { (m : ℕ) → place < m → QueuedBelow records.old used m → SamePast records.old records.new m }
 {
     put_key(records, place as usize, key);
     put_slot(records, used, place);
@@ -131,6 +135,7 @@ fn remove_at<P, K: HeapKey>(records: &mut [Record<P, K>], left: usize, k: usize)
     ensures removed { Removed records.old records.new left (in_slot records.old k) }
     ensures kept { Kept records.old records.new }
     ensures order { InOrder K.HeapKey.before records.old (left + 1) → InOrder K.HeapKey.before records.new left }
+    ensures past { StaysPast records.old records.new (left + 1) }
 {
     swap(records, k, left);
     if k < left {
@@ -145,6 +150,7 @@ pub(crate) fn remove<P, K: HeapKey>(records: &mut [Record<P, K>], left: usize, p
     ensures removed { Removed records.old records.new left place }
     ensures kept { Kept records.old records.new }
     ensures order { InOrder K.HeapKey.before records.old (left + 1) → InOrder K.HeapKey.before records.new left }
+    ensures past { StaysPast records.old records.new (left + 1) }
 {
     let k = index_of(records, place as usize) as usize;
     remove_at(records, left, k);
@@ -158,6 +164,7 @@ pub(crate) fn rekey<P, K: HeapKey>(records: &mut [Record<P, K>], used: usize, pl
     ensures same { SamePlaces records.old records.new used }
     ensures rekeyed { Rekeyed records.old records.new place key }
     ensures order { InOrder K.HeapKey.before records.old used → InOrder K.HeapKey.before records.new used }
+    ensures past { StaysPast records.old records.new used }
 {
     let k = index_of(records, place as usize) as usize;
     put_key(records, place as usize, key);

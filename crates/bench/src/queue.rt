@@ -3,8 +3,8 @@ ghost use Rattle.std.specs.Prelude.{◌≡◌, ℕ, ◌<◌, true, false, length
 ghost use Rattle.std.specs.Option.{option_map};
 ghost use Rattle.std.specs.List.{slice_get};
 ghost use Rattle.bench.specs.Keys.{key_of as row_key};
-ghost use Rattle.bench.specs.Queue.{Linked, Queued};
-ghost use Rattle.bench.specs.Records.{indexes as index_column, slots as slot_column};
+ghost use Rattle.bench.specs.Queue.{Linked, Queued, QueuedBelow};
+ghost use Rattle.bench.specs.Records.{SamePast, indexes as index_column, slots as slot_column};
 ghost use Rattle.bench.specs.Prices.{LeastIn, Others, SortedIn, keys_in, lookaheads_in, standings_in};
 
 use crate::key::Key;
@@ -75,6 +75,7 @@ pub(crate) fn put_standing<P: PriceKind>(records: &mut [Record<P>], place: usize
     ensures rest { (lookaheads_in P.PriceKind.value records.new ≡ lookaheads_in P.PriceKind.value records.old) × (keys_in P.PriceKind.value records.new ≡ keys_in P.PriceKind.value records.old) }
     ensures queue { (n q : ℕ) → (Queued records.old n q → Queued records.new n q) × (Queued records.new n q → Queued records.old n q) }
     ensures order { (n : ℕ) → SortedIn P.PriceKind.value records.old n → SortedIn P.PriceKind.value records.new n }
+    ensures past { (m : ℕ) → place < m → SamePast records.old records.new m }
 {
     records[place].standing = standing;
 }
@@ -86,6 +87,7 @@ pub(crate) fn put_lookahead<P: PriceKind>(records: &mut [Record<P>], place: usiz
     ensures rest { (standings_in P.PriceKind.value records.new ≡ standings_in P.PriceKind.value records.old) × (keys_in P.PriceKind.value records.new ≡ keys_in P.PriceKind.value records.old) }
     ensures queue { (n q : ℕ) → (Queued records.old n q → Queued records.new n q) × (Queued records.new n q → Queued records.old n q) }
     ensures order { (n : ℕ) → SortedIn P.PriceKind.value records.old n → SortedIn P.PriceKind.value records.new n }
+    ensures past { (m : ℕ) → place < m → SamePast records.old records.new m }
 {
     records[place].lookahead = lookahead;
 }
@@ -105,6 +107,7 @@ pub(crate) fn enqueue<P: PriceKind>(
     ensures written { keys_in P.PriceKind.value records.new ≡ slice_set (keys_in P.PriceKind.value records.old) place (row_key P.PriceKind.value key) }
     ensures rest { (standings_in P.PriceKind.value records.new ≡ standings_in P.PriceKind.value records.old) × (lookaheads_in P.PriceKind.value records.new ≡ lookaheads_in P.PriceKind.value records.old) }
     ensures order { SortedIn P.PriceKind.value records.old used → SortedIn P.PriceKind.value records.new result }
+    ensures past { (m : ℕ) → place < m → QueuedBelow records.old used m → SamePast records.old records.new m }
 {
     if is_queued(records, used, place) {
         heap::rekey(records, used, place, key);
@@ -123,6 +126,7 @@ pub(crate) fn dequeue<P: PriceKind>(records: &mut [Record<P>], used: usize, plac
     ensures others { Others records.old used records.new result place }
     ensures rest { (standings_in P.PriceKind.value records.new ≡ standings_in P.PriceKind.value records.old) × ((lookaheads_in P.PriceKind.value records.new ≡ lookaheads_in P.PriceKind.value records.old) × (keys_in P.PriceKind.value records.new ≡ keys_in P.PriceKind.value records.old)) }
     ensures order { SortedIn P.PriceKind.value records.old used → SortedIn P.PriceKind.value records.new result }
+    ensures past { (m : ℕ) → QueuedBelow records.old used m → SamePast records.old records.new m }
 {
     heap::remove(records, used - 1, place);
     used - 1

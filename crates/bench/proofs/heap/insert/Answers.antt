@@ -1,7 +1,8 @@
-use Rattle.std.proofs.Common.{length, ◌∙◌, arith}
+use Rattle.std.proofs.Common.{length, set, ap, ◌∙◌, arith}
 use Rattle.bench.specs.Queue.{Added}
 use Rattle.bench.proofs.Inserts.{insert_gap, inserted}
 use Rattle.bench.proofs.Links.{added_permuted, kept_again, rekeyed_kept}
+use Rattle.bench.proofs.Stays.{added_stays, append_stays}
 use Rattle.bench.proofs.Pigeons.{fewer}
 use Rattle.bench.proofs.heap.insert.Goals as goal
 
@@ -40,11 +41,14 @@ returns g c =
     let n = c.args.used in
     let p = c.args.place in
     let key = c.args.key in
+    let z : Added r0 r3 n p = inserted r0 r1 r2 r3 n p key c.requires.linked c.requires.inside.0 c.requires.inside.1 c.requires.new w1.slots w2.slots w3.slots w1.indexes w2.indexes w3.indexes
+    (c.put_index.auto.records ∙ c.put_slot.auto.records ∙ c.put_key.auto.records) in
     record {
-      added = added_permuted r0 r3 r4 n p
-          (inserted r0 r1 r2 r3 n p key c.requires.linked c.requires.inside.0 c.requires.inside.1 c.requires.new w1.slots w2.slots w3.slots w1.indexes w2.indexes w3.indexes
-          (c.put_index.auto.records ∙ c.put_slot.auto.records ∙ c.put_key.auto.records)) m.permuted;
+      added = added_permuted r0 r3 r4 n p z m.permuted;
       rekeyed = rekeyed_kept r0 r1 r4 p key w1.rekeyed (kept_again r1 r3 r4 (kept_again r1 r2 r3 w2.kept w3.kept) m.permuted.kept);
       order = λ o. m.order (insert_gap r0 r1 r2 r3 n p key c.requires.linked c.requires.inside.0 c.requires.inside.1 c.requires.new w1.slots w2.slots w3.slots
           g.K.HeapKey.before g.K.HeapKey.ordered w1.rekeyed w2.kept w3.kept o);
+      past = added_stays r0 r3 r4 n p z
+          (append_stays r0 r3 n p key c.requires.linked c.requires.new (w3.slots ∙ w2.slots ∙ ap (λ xs. set xs n p) w1.slots) (w3.indexes ∙ ap (λ xs. set xs p n) (w2.indexes ∙ w1.indexes))
+          (rekeyed_kept r0 r1 r3 p key w1.rekeyed (kept_again r1 r2 r3 w2.kept w3.kept))) m.past;
     }

@@ -1,5 +1,7 @@
 use Rattle.std.proofs.Common.{arith}
 use Rattle.bench.proofs.Links.{queued_within, rekeyed_kept, relinked, requeued, same_again}
+use Rattle.bench.proofs.Past.{key_past}
+use Rattle.bench.proofs.Stays.{stays_again}
 use Rattle.bench.proofs.Sifts.{rekeys}
 use Rattle.bench.proofs.heap.rekey.Goals as goal
 
@@ -33,4 +35,6 @@ returns g c =
       same = same_again rs ss ts n (requeued rs ss w.slots w.indexes n) m.permuted.same;
       rekeyed = rekeyed_kept rs ss ts c.args.place c.args.key w.rekeyed m.permuted.kept;
       order = λ o. m.order (rekeys before g.K.HeapKey.ordered rs ss n w.slots c.args.place c.args.key w.rekeyed.0 c.requires.linked c.index_of-k.result c.index_of-k.ensures c.requires.queued o);
+      past = stays_again rs ss ts n (requeued rs ss w.slots w.indexes n)
+          (λ k b. key_past rs ss k c.args.place c.args.key w.rekeyed (b c.args.place c.requires.queued) w.slots w.indexes) m.past;
     }

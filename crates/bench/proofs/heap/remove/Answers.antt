@@ -12,4 +12,5 @@ returns g c =
       removed = removed_from rs c.remove_at.new.records c.args.left c.args.place c.index_of-k.result c.index_of-k.ensures c.requires.queued c.remove_at.ensures.removed;
       kept = c.remove_at.ensures.kept;
       order = c.remove_at.ensures.order;
+      past = c.remove_at.ensures.past;
     }

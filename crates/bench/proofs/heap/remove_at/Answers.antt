@@ -1,6 +1,7 @@
 use Rattle.std.proofs.Common.{◌+◌, arith}
 use Rattle.bench.specs.Records.{in_slot}
 use Rattle.bench.proofs.Links.{fewer_linked, kept_again, last_goes, names, removed_permuted, swap_permutes, swapped}
+use Rattle.bench.proofs.Stays.{removed_stays, swap_stays}
 use Rattle.bench.proofs.Sifts.{leaves, leaves_last}
 use Rattle.bench.proofs.heap.remove_at.Goals as goal
 
@@ -31,6 +32,7 @@ returns-then-k-left g c =
       removed = removed_permuted rs ss ts n (in_slot rs k) (last_goes rs ss n (in_slot rs k) m s.1) r.permuted;
       kept = kept_again rs ss ts x.kept r.permuted.kept;
       order = λ o. r.order (leaves g.K.HeapKey.before g.K.HeapKey.ordered rs ss n k s x.kept.0 c.if-k-left.true o);
+      past = removed_stays rs ss ts n (in_slot rs k) (last_goes rs ss n (in_slot rs k) m s.1) (swap_stays rs ss k n x (n + 1) c.requires.linked (omega arith) (omega arith)) r.past;
     }
 
 pub returns-else-k-left : goal.returns-else-k-left
@@ -46,4 +48,5 @@ returns-else-k-left g c =
       removed = last_goes rs ss n (in_slot rs k) m s.1;
       kept = x.kept;
       order = λ o. leaves_last g.K.HeapKey.before g.K.HeapKey.ordered rs ss n k s x.kept.0 c.if-k-left.false o;
+      past = swap_stays rs ss k n x (n + 1) c.requires.linked (omega arith) (omega arith);
     }

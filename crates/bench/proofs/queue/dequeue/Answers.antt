@@ -19,4 +19,5 @@ returns g c =
       others = queue_removed rs ss n c.args.place l e.removed;
       rest = (column_same (λ r. r.standing) v rs ss e.kept.1, (column_same (λ r. r.lookahead) v rs ss e.kept.2, column_same (λ r. r.key) (key_of v) rs ss e.kept.0));
       order = order_left v rs ss n (n - 1) l refl e.order;
+      past = λ m w. e.past m (λ q a. let r = a.0 in w q (omega arith, a.1));
     }

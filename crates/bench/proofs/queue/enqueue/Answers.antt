@@ -25,6 +25,7 @@ returns-then-is_queued g c =
       written = column_set (λ r. r.key) (key_of v) rs ss p c.args.key e.rekeyed.0;
       rest = (column_same (λ r. r.standing) v rs ss e.rekeyed.1, column_same (λ r. r.lookahead) v rs ss e.rekeyed.2);
       order = order_kept v rs ss n n e.order;
+      past = λ m l w. e.past m w;
     }
 
 pub returns : goal.returns
@@ -42,4 +43,5 @@ returns g c =
       written = column_set (λ r. r.key) (key_of v) rs ss p c.args.key e.rekeyed.0;
       rest = (column_same (λ r. r.standing) v rs ss e.rekeyed.1, column_same (λ r. r.lookahead) v rs ss e.rekeyed.2);
       order = order_kept v rs ss n (n + 1) e.order;
+      past = e.past;
     }

@@ -1,4 +1,4 @@
-use Rattle.std.proofs.Common.{length, refl, rules}
+use Rattle.std.proofs.Common.{length, refl, drop-set-lt, rules}
 use borrow.Author.Rules.{scaled_Fits}
 use lib.Seq.{map-set_same}
 use Rattle.std.proofs.lemmas.List.{map-set}
@@ -24,4 +24,5 @@ returns g c =
       rest = (map-set_same (λ r. v r.standing) rs i _ d refl, ek);
       queue = queue_same rs _ es ei;
       order = order_same v rs _ es ek;
+      past = λ m l. drop-set-lt m rs i _ l;
     }

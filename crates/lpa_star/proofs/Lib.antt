@@ -1,0 +1,10 @@
+pub mod Columns
+pub mod Lookaheads
+pub mod Keys
+pub mod Right
+pub mod Successors
+pub mod Tops
+pub mod Progress
+pub mod Beginnings
+pub mod Repricings
+pub mod Kept

@@ -1,0 +1,5 @@
+pub mod Steps
+pub mod Memory
+pub mod Past
+pub mod UpToDate
+pub mod Closing

@@ -1,0 +1,4 @@
+pub mod FirstTests
+pub mod Accepted
+pub mod Ended
+pub mod Shown

@@ -1,0 +1,3 @@
+pub mod Faults
+pub mod Stages
+pub mod Answers

@@ -1,0 +1,4 @@
+pub mod Nearest
+pub mod Walks
+pub mod Laid
+pub mod Writes

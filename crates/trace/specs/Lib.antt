@@ -1,0 +1,3 @@
+pub mod Lengths
+pub mod Moves
+pub mod Answers

@@ -1,0 +1,9 @@
+pub mod Priced
+pub mod Stages
+pub mod Closed
+pub mod Follows
+pub mod Sound
+pub mod Promised
+pub mod Carried
+pub mod Answered
+pub mod Told
