@@ -6,8 +6,16 @@ mod files;
 #[cfg(test)]
 mod lattices;
 #[cfg(test)]
+mod lattices_by_table;
+#[cfg(test)]
 mod links;
+#[cfg(test)]
+mod links_by_table;
 #[cfg(test)]
 mod piles;
 #[cfg(test)]
+mod piles_by_table;
+#[cfg(test)]
 mod prices;
+#[cfg(test)]
+mod table;
