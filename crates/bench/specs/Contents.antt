@@ -1,5 +1,5 @@
--- What a bench holds, as a planner speaks of it. Free besides, below the places in use: which slot a queued place is
--- in, the unused slots, and the indexes of places that are not queued.
+-- What a bench holds, as a planner speaks of it. Free besides, within the records of the places in use: which slot a
+-- queued place is in, the unused slots, and the indexes of places that are not queued.
 use Rattle.std.specs.Prelude.{ℕ, ◌<◌, Bool, ◌&&◌, List, length, drop, nat_lt}
 use Rattle.rows.specs.Rows.{Price}
 use Rattle.rows.specs.Keys.{Key}

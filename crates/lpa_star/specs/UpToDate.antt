@@ -1,5 +1,5 @@
 -- A bench that is up to date with a chart.
-use Rattle.std.specs.Prelude.{◌≡◌, ℕ, ◌<◌, ◌≤◌, true, false, List, get_or, Some, None, Option, ◌≢◌, slice_index_or}
+use Rattle.std.specs.Prelude.{◌≡◌, ℕ, ◌<◌, ◌≤◌, true, false, List, Some, None, Option, ◌≢◌, slice_index_or}
 use Rattle.rows.specs.Rows.{Price, closed}
 use Rattle.rows.specs.Keys.{Key}
 use Rattle.chart.specs.Meaning.{Link, Meaning, link_at, places}
@@ -10,7 +10,7 @@ use Rattle.lpa_star.specs.Memory.{InHeapOrder, Memory, Waiting, key_kept}
 -- what is kept of place p is right: its lookahead is the defined one, and it is queued, under its key, where it is uneven
 -- and only there. The key that is kept of a place that is not queued is never read, and free.
 pub record Right (m : Meaning) (gs ls : List Price) (ks : List Key) (Q : ℕ → Type 0) (p : ℕ) : Type 0 where
-  pub look : get_or ls p closed ≡ lookahead m gs p
+  pub look : slice_index_or ls p closed ≡ lookahead m gs p
   pub queued : uneven m gs p ≡ true → Q p
   pub even : uneven m gs p ≡ false → Q p → ⊥
   pub keyed : Q p → key_kept ks p ≡ key m gs p
@@ -20,7 +20,7 @@ RightAt m d p = Right m d.standings d.lookaheads d.keys (Waiting d) p
 
 -- what is kept of place p, its standing apart, is as it was
 pub record Same (ls ms : List Price) (ks js : List Key) (Q R : ℕ → Type 0) (p : ℕ) : Type 0 where
-  pub look : get_or ms p closed ≡ slice_index_or ls p closed
+  pub look : slice_index_or ms p closed ≡ slice_index_or ls p closed
   pub key : key_kept js p ≡ key_kept ks p
   pub into : Q p → R p
   pub out : R p → Q p
