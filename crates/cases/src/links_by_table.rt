@@ -7,9 +7,9 @@ use link_chart::LinkChart;
 use price::{Lift, PriceKind};
 use std::test::Fail;
 
-pub const PLACE: PlaceRecord = PlaceRecord { lifts: 77, ms: 78 };
+pub const GARBAGE_PLACE: PlaceRecord = PlaceRecord { lifts: 77, ms: 78 };
 
-pub const LINK: LinkRecord = LinkRecord {
+pub const GARBAGE_LINK: LinkRecord = LinkRecord {
     from: 71,
     to: 72,
     floor_lifts: 73,
@@ -66,16 +66,16 @@ const ONE_PLACE: Table = Table {
 
 #[test]
 fn no_file_by_table(rt: HostRuntime) {
-    let mut places = [PLACE; 5];
-    let mut links = [LINK; 4];
+    let mut places = [GARBAGE_PLACE; 5];
+    let mut links = [GARBAGE_LINK; 4];
     let mut chart = LinkChart::over(&mut places, &mut links);
     check_table(&rt, &mut chart, ms(3), &ONE_PLACE);
 }
 
 #[test]
 fn a_file_by_table(rt: HostRuntime) -> Result<(), Fail> {
-    let mut places = [PLACE; 5];
-    let mut links = [LINK; 4];
+    let mut places = [GARBAGE_PLACE; 5];
+    let mut links = [GARBAGE_LINK; 4];
     let mut chart = LinkChart::over(&mut places, &mut links);
     chart.read(&CHART)?;
     check_table(&rt, &mut chart, ms(3), &THREE_PLACES);
@@ -84,8 +84,8 @@ fn a_file_by_table(rt: HostRuntime) -> Result<(), Fail> {
 
 #[test]
 fn prices_by_table(rt: HostRuntime) -> Result<(), Fail> {
-    let mut places = [PLACE; 3];
-    let mut links = [LINK; 3];
+    let mut places = [GARBAGE_PLACE; 3];
+    let mut links = [GARBAGE_LINK; 3];
     let mut chart = LinkChart::over(&mut places, &mut links);
     chart.read(&CHART)?;
     let bad = Some((Cause::BadPrice, 0));

@@ -1,7 +1,7 @@
 // Layers piled over both bottoms, by tables. A pile is made and asked in a function over any chart, which the tests then call.
 use crate::files::CHART;
 use crate::lattices_by_table::cells;
-use crate::links_by_table::{LINK, PLACE, ms};
+use crate::links_by_table::{GARBAGE_LINK, GARBAGE_PLACE, ms};
 use crate::table::{Table, check_table};
 use crate::{lattices_by_table as lattices, links_by_table as links};
 use chart::{Cause, Chart, ChartFault};
@@ -125,8 +125,8 @@ const CELLS_FOUR: Table = Table {
 
 #[test]
 fn three_layers_over_a_link_chart(rt: HostRuntime) -> Result<(), Fail> {
-    let mut places = [PLACE; 3];
-    let mut links = [LINK; 3];
+    let mut places = [GARBAGE_PLACE; 3];
+    let mut links = [GARBAGE_LINK; 3];
     let mut chart = LinkChart::over(&mut places, &mut links);
     chart.read(&CHART)?;
     three(&rt, chart, 1, ms(3), &LINKS_THREE)
@@ -134,8 +134,8 @@ fn three_layers_over_a_link_chart(rt: HostRuntime) -> Result<(), Fail> {
 
 #[test]
 fn four_layers_over_a_link_chart(rt: HostRuntime) -> Result<(), Fail> {
-    let mut places = [PLACE; 3];
-    let mut links = [LINK; 3];
+    let mut places = [GARBAGE_PLACE; 3];
+    let mut links = [GARBAGE_LINK; 3];
     let mut chart = LinkChart::over(&mut places, &mut links);
     chart.read(&CHART)?;
     four(&rt, chart, [2, 1], ms(3), &LINKS_FOUR)
