@@ -4,11 +4,11 @@ use lattice::{Lattice, Layout};
 use price::{PriceKind, Time};
 use std::test::Fail;
 
-fn ms(n: u64) -> Time {
+pub fn ms(n: u64) -> Time {
     Time::from_numbers(&[n]).unwrap_or(Time::Closed)
 }
 
-fn layout(width: u16, height: u16, least: u32, start: u16, goal: u16) -> Layout {
+pub fn layout(width: u16, height: u16, least: u32, start: u16, goal: u16) -> Layout {
     Layout {
         width,
         height,

@@ -1,23 +1,10 @@
 // The lattice by tables: asked everything, priced, its sizes and its refusals.
+use crate::lattices::{layout, ms};
 use crate::table::{Table, WayRow, check_prices, check_table};
 use chart::{Cause, Chart, ChartFault};
-use lattice::{Lattice, Layout};
-use price::{PriceKind, Time};
+use lattice::Lattice;
+use price::Time;
 use std::test::Fail;
-
-pub fn ms(n: u64) -> Time {
-    Time::from_numbers(&[n]).unwrap_or(Time::Closed)
-}
-
-pub fn cells(width: u16, height: u16, least: u32, start: u16, goal: u16) -> Layout {
-    Layout {
-        width,
-        height,
-        least,
-        start,
-        goal,
-    }
-}
 
 pub const WAYS: [WayRow; 3] = [
     ([4, 1, 10], [Some(13), Some(17), Some(13), Some(16)]),
@@ -50,7 +37,7 @@ fn a_lattice_answers_by_its_layout(rt: HostRuntime) -> Result<(), Fail> {
     let mut prices = [7u32; 40];
     let mut bed = Lattice::over(&mut prices);
     assert_eq!(rt; [bed.places(), bed.link_numbers()], [1, 0]);
-    bed.lay_out(cells(3, 3, 2, 0, 8))?;
+    bed.lay_out(layout(3, 3, 2, 0, 8))?;
     check_table(&rt, &mut bed, ms(3), &CELLS);
     let bad = Some((Cause::BadPrice, 0));
     check_prices(&rt, &mut bed, ms(1), &[(1, bad)]);
@@ -89,7 +76,7 @@ fn sizes_by_table(rt: HostRuntime) {
     let mut bed = Lattice::over(&mut prices);
     for row in LAYOUTS {
         let ([width, height, start, goal], least, cause, places) = row;
-        let answer = bed.lay_out(cells(width, height, least, start, goal));
+        let answer = bed.lay_out(layout(width, height, least, start, goal));
         assert_eq!(rt; answer.err(), refusal(cause));
         assert_eq!(rt; bed.places(), places);
     }

@@ -1,26 +1,11 @@
 // The link chart by tables: asked everything and priced.
 use crate::files::CHART;
+use crate::links::{LINK, PLACE, ms};
 use crate::table::{Table, WayRow, check_prices, check_table};
 use chart::Cause;
-use chart_file::{LinkRecord, PlaceRecord};
 use link_chart::LinkChart;
-use price::{Lift, PriceKind};
+use price::Lift;
 use std::test::Fail;
-
-pub const GARBAGE_PLACE: PlaceRecord = PlaceRecord { lifts: 77, ms: 78 };
-
-pub const GARBAGE_LINK: LinkRecord = LinkRecord {
-    from: 71,
-    to: 72,
-    floor_lifts: 73,
-    price_lifts: 74,
-    floor_ms: 75,
-    price_ms: 76,
-};
-
-pub fn ms(n: u64) -> Lift {
-    Lift::from_numbers(&[0, n]).unwrap_or(Lift::Closed)
-}
 
 pub const WAYS: [WayRow; 3] = [
     ([2, 1, 2], [Some(2), None, Some(2), None]),
@@ -66,16 +51,16 @@ const ONE_PLACE: Table = Table {
 
 #[test]
 fn no_file_by_table(rt: HostRuntime) {
-    let mut places = [GARBAGE_PLACE; 5];
-    let mut links = [GARBAGE_LINK; 4];
+    let mut places = [PLACE; 5];
+    let mut links = [LINK; 4];
     let mut chart = LinkChart::over(&mut places, &mut links);
     check_table(&rt, &mut chart, ms(3), &ONE_PLACE);
 }
 
 #[test]
 fn a_file_by_table(rt: HostRuntime) -> Result<(), Fail> {
-    let mut places = [GARBAGE_PLACE; 5];
-    let mut links = [GARBAGE_LINK; 4];
+    let mut places = [PLACE; 5];
+    let mut links = [LINK; 4];
     let mut chart = LinkChart::over(&mut places, &mut links);
     chart.read(&CHART)?;
     check_table(&rt, &mut chart, ms(3), &THREE_PLACES);
@@ -84,8 +69,8 @@ fn a_file_by_table(rt: HostRuntime) -> Result<(), Fail> {
 
 #[test]
 fn prices_by_table(rt: HostRuntime) -> Result<(), Fail> {
-    let mut places = [GARBAGE_PLACE; 3];
-    let mut links = [GARBAGE_LINK; 3];
+    let mut places = [PLACE; 3];
+    let mut links = [LINK; 3];
     let mut chart = LinkChart::over(&mut places, &mut links);
     chart.read(&CHART)?;
     let bad = Some((Cause::BadPrice, 0));

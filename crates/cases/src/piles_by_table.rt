@@ -1,9 +1,9 @@
 // Layers piled over both bottoms, by tables. A pile is made and asked in a function over any chart, which the tests then call.
 use crate::files::CHART;
-use crate::lattices_by_table::cells;
-use crate::links_by_table::{GARBAGE_LINK, GARBAGE_PLACE, ms};
+use crate::lattices::{layout, ms as time};
+use crate::links::{LINK, PLACE, ms};
 use crate::table::{Table, check_table};
-use crate::{lattices_by_table as lattices, links_by_table as links};
+use crate::{lattices_by_table, links_by_table};
 use chart::{Cause, Chart, ChartFault};
 use lattice::Lattice;
 use layers::{Guard, Return};
@@ -49,8 +49,8 @@ const LINKS_THREE: Table = Table {
         (3, None),
         (65535, None),
     ],
-    ways: links::WAYS,
-    estimates: links::ESTIMATES,
+    ways: links_by_table::WAYS,
+    estimates: links_by_table::ESTIMATES,
     prices: [
         (0, Some((Cause::Held, 2))),
         (1, Some((Cause::Held, 2))),
@@ -69,8 +69,8 @@ const LINKS_FOUR: Table = Table {
         (3, None),
         (65535, None),
     ],
-    ways: links::WAYS,
-    estimates: links::ESTIMATES,
+    ways: links_by_table::WAYS,
+    estimates: links_by_table::ESTIMATES,
     prices: [
         (0, Some((Cause::Held, 3))),
         (1, Some((Cause::Held, 3))),
@@ -92,7 +92,7 @@ const CELLS_THREE: Table = Table {
         (35, Some([8, 7, 2, 2, 0])),
         (36, None),
     ],
-    ways: lattices::WAYS,
+    ways: lattices_by_table::WAYS,
     estimates: ZEROS,
     prices: [
         (1, None),
@@ -112,7 +112,7 @@ const CELLS_FOUR: Table = Table {
         (35, Some([8, 7, 2, 0, 1])),
         (36, None),
     ],
-    ways: lattices::WAYS,
+    ways: lattices_by_table::WAYS,
     estimates: ZEROS,
     prices: [
         (1, None),
@@ -125,8 +125,8 @@ const CELLS_FOUR: Table = Table {
 
 #[test]
 fn three_layers_over_a_link_chart(rt: HostRuntime) -> Result<(), Fail> {
-    let mut places = [GARBAGE_PLACE; 3];
-    let mut links = [GARBAGE_LINK; 3];
+    let mut places = [PLACE; 3];
+    let mut links = [LINK; 3];
     let mut chart = LinkChart::over(&mut places, &mut links);
     chart.read(&CHART)?;
     three(&rt, chart, 1, ms(3), &LINKS_THREE)
@@ -134,8 +134,8 @@ fn three_layers_over_a_link_chart(rt: HostRuntime) -> Result<(), Fail> {
 
 #[test]
 fn four_layers_over_a_link_chart(rt: HostRuntime) -> Result<(), Fail> {
-    let mut places = [GARBAGE_PLACE; 3];
-    let mut links = [GARBAGE_LINK; 3];
+    let mut places = [PLACE; 3];
+    let mut links = [LINK; 3];
     let mut chart = LinkChart::over(&mut places, &mut links);
     chart.read(&CHART)?;
     four(&rt, chart, [2, 1], ms(3), &LINKS_FOUR)
@@ -145,16 +145,16 @@ fn four_layers_over_a_link_chart(rt: HostRuntime) -> Result<(), Fail> {
 fn three_layers_over_a_lattice(rt: HostRuntime) -> Result<(), Fail> {
     let mut prices = [0u32; 36];
     let mut bed = Lattice::over(&mut prices);
-    bed.lay_out(cells(3, 3, 2, 0, 8))?;
-    three(&rt, bed, 4, lattices::ms(3), &CELLS_THREE)
+    bed.lay_out(layout(3, 3, 2, 0, 8))?;
+    three(&rt, bed, 4, time(3), &CELLS_THREE)
 }
 
 #[test]
 fn four_layers_over_a_lattice(rt: HostRuntime) -> Result<(), Fail> {
     let mut prices = [0u32; 36];
     let mut bed = Lattice::over(&mut prices);
-    bed.lay_out(cells(3, 3, 2, 0, 8))?;
-    four(&rt, bed, [8, 4], lattices::ms(3), &CELLS_FOUR)
+    bed.lay_out(layout(3, 3, 2, 0, 8))?;
+    four(&rt, bed, [8, 4], time(3), &CELLS_FOUR)
 }
 
 // A refusal of the lowest guard to list a place.
@@ -182,6 +182,6 @@ fn filled<C: Chart + Drop>(rt: &impl Abort, chart: C) -> Result<(), Fail> {
 fn a_guard_lists_sixty_four_places(rt: HostRuntime) -> Result<(), Fail> {
     let mut prices = [0u32; 400];
     let mut bed = Lattice::over(&mut prices);
-    bed.lay_out(cells(10, 10, 1, 0, 99))?;
+    bed.lay_out(layout(10, 10, 1, 0, 99))?;
     filled(&rt, bed)
 }

@@ -1,12 +1,9 @@
-use Rattle.std.proofs.Common.{◌∙◌}
+use Rattle.std.proofs.Common.{ap, ◌∙◌}
+use Rattle.bench.specs.Contents.{keys}
 use Rattle.bench_cases.proofs.lender.in_and_out.Goals as goal
 
-pub returns : goal.returns
-returns g c =
-    let put = c.enqueue-queued.ensures in
-    let out = c.dequeue.ensures in
-    record {
-      lender = out.lender.0 ∙ put.lender.0;
-      written = λ t. out.rest.1.1 ∙ put.written t;
-      rest = (out.rest.0 ∙ put.rest.0, out.rest.1.0 ∙ put.rest.1);
-    }
+pub returns-clause-refused : goal.returns-clause-refused
+returns-clause-refused g c = λ f. c.dequeue.ensures.rest.1.1 ∙ ap (keys g.P.PriceKind.value) (c.enqueue-queued.ensures.refused f)
+
+pub returns-clause-written : goal.returns-clause-written
+returns-clause-written g c = λ t. c.dequeue.ensures.rest.1.1 ∙ c.enqueue-queued.ensures.written t
