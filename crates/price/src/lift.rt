@@ -1,15 +1,16 @@
 // Travel counted first by lifts of the spindle, then by time.
 ghost use Rattle.price.specs.Proper.{lift_laws, lift_proper};
 ghost use Rattle.price.specs.Kinds.{lift_kind, lift_value};
+ghost use Rattle.std.proofs.Common.{rules};
 
 use crate::kind::PriceKind;
 use crate::number::Number;
 use crate::time::LARGEST_MS;
 
-#[derive(Clone, Copy, PartialEq, Eq, Debug)]
+#[derive(Clone, Copy, PartialEq, Eq, PartialOrd, Ord, Debug)]
 pub enum Lift {
-    Closed,
     Open { lifts: Number, ms: Number },
+    Closed,
 }
 
 // The most lifts that a link may take.
@@ -49,19 +50,6 @@ impl PriceKind for Lift {
             Some(ms) => Lift::Open { lifts, ms },
             None => Lift::Closed,
         }
-    }
-
-    fn below(self, other: Lift) -> bool {
-        let Lift::Open { lifts: a, ms: b } = self else {
-            return false;
-        };
-        let Lift::Open { lifts: c, ms: d } = other else {
-            return true;
-        };
-        if a.get() == c.get() {
-            return b.get() < d.get();
-        }
-        a.get() < c.get()
     }
 
     fn fits_link(self) -> bool {
@@ -106,4 +94,6 @@ impl PriceKind for Lift {
             _ => None,
         }
     }
+
+    ghost ordered = { Prim.search rules };
 }

@@ -1,14 +1,15 @@
 // Travel time.
 ghost use Rattle.price.specs.Proper.{time_laws, time_proper};
 ghost use Rattle.price.specs.Kinds.{time_kind, time_value};
+ghost use Rattle.std.proofs.Common.{rules};
 
 use crate::kind::PriceKind;
 use crate::number::Number;
 
-#[derive(Clone, Copy, PartialEq, Eq, Debug)]
+#[derive(Clone, Copy, PartialEq, Eq, PartialOrd, Ord, Debug)]
 pub enum Time {
-    Closed,
     Open { ms: Number },
+    Closed,
 }
 
 // The most milliseconds that a link may take.
@@ -41,16 +42,6 @@ impl PriceKind for Time {
         match a.plus(b) {
             Some(ms) => Time::Open { ms },
             None => Time::Closed,
-        }
-    }
-
-    fn below(self, other: Time) -> bool {
-        let Time::Open { ms: a } = self else {
-            return false;
-        };
-        match other {
-            Time::Open { ms: b } => a.get() < b.get(),
-            Time::Closed => true,
         }
     }
 
@@ -90,4 +81,6 @@ impl PriceKind for Time {
             _ => None,
         }
     }
+
+    ghost ordered = { Prim.search rules };
 }
