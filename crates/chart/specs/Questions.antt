@@ -23,12 +23,24 @@ abbrev pub numbers_from : (Option Link → Bool) → ℕ → List (Option Link) 
 numbers_from test k [] = []
 numbers_from test k (l ∷ ls) = cond (test l) (k ∷ numbers_from test (suc k) ls) (numbers_from test (suc k) ls)
 
+-- the numbers of the links into a place, and out of it
+abbrev pub into : Meaning → ℕ → List ℕ
+into m p = numbers_from (leads_into p) 0 m.links
+
+abbrev pub out_of : Meaning → ℕ → List ℕ
+out_of m p = numbers_from (leads_out p) 0 m.links
+
+-- the end that is this one when the link leads the other way
+abbrev pub opposite : End → End
+opposite From = To
+opposite To = From
+
 -- a link has this end at a place
 abbrev pub leads_at : End → ℕ → Option Link → Bool
 leads_at From = leads_out
 leads_at To = leads_into
 
--- the numbers of the links with this end at a place
+-- the numbers of the links with this end at a place: `out_of` or `into`
 abbrev pub numbers_at : End → Meaning → ℕ → List ℕ
 numbers_at end m p = numbers_from (leads_at end p) 0 m.links
 

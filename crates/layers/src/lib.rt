@@ -3,7 +3,6 @@
 
 pub mod back;
 pub mod guard;
-mod listed;
 
 pub use back::Return;
 pub use guard::Guard;
