@@ -7,6 +7,7 @@ use crate::kind::PriceKind;
 use crate::number::Number;
 use crate::time::LARGEST_MS;
 
+// Closed is above every open price, so it stands last: the derived order is that of prices. `Option` has it the other way round.
 #[derive(Clone, Copy, PartialEq, Eq, PartialOrd, Ord, Debug)]
 pub enum Lift {
     Open { lifts: Number, ms: Number },
@@ -37,18 +38,12 @@ impl PriceKind for Lift {
     }
 
     fn plus(self, other: Lift) -> Lift {
-        let Lift::Open { lifts: a, ms: b } = self else {
+        let (Lift::Open { lifts: a, ms: b }, Lift::Open { lifts: c, ms: d }) = (self, other) else {
             return Lift::Closed;
         };
-        let Lift::Open { lifts: c, ms: d } = other else {
-            return Lift::Closed;
-        };
-        let Some(lifts) = a.plus(c) else {
-            return Lift::Closed;
-        };
-        match b.plus(d) {
-            Some(ms) => Lift::Open { lifts, ms },
-            None => Lift::Closed,
+        match (a.plus(c), b.plus(d)) {
+            (Some(lifts), Some(ms)) => Lift::Open { lifts, ms },
+            _ => Lift::Closed,
         }
     }
 

@@ -6,6 +6,7 @@ ghost use Rattle.std.proofs.Common.{rules};
 use crate::kind::PriceKind;
 use crate::number::Number;
 
+// Closed is above every open price, so it stands last: the derived order is that of prices. `Option` has it the other way round.
 #[derive(Clone, Copy, PartialEq, Eq, PartialOrd, Ord, Debug)]
 pub enum Time {
     Open { ms: Number },
@@ -33,16 +34,10 @@ impl PriceKind for Time {
     }
 
     fn plus(self, other: Time) -> Time {
-        let Time::Open { ms: a } = self else {
+        let (Time::Open { ms: a }, Time::Open { ms: b }) = (self, other) else {
             return Time::Closed;
         };
-        let Time::Open { ms: b } = other else {
-            return Time::Closed;
-        };
-        match a.plus(b) {
-            Some(ms) => Time::Open { ms },
-            None => Time::Closed,
-        }
+        a.plus(b).map_or(Time::Closed, |ms| Time::Open { ms })
     }
 
     fn fits_link(self) -> bool {
