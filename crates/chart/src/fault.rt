@@ -7,50 +7,31 @@ use thiserror::Error;
 // What is wrong, as a person is told in one line. `number` gives each cause the number by which a person knows it.
 #[derive(Clone, Copy, PartialEq, Eq, Debug, Error)]
 pub enum Cause {
-    // 1
     #[error("the file is shorter than 16 bytes or does not end in LAST")]
-    NotAChart,
-    // 2
+    NotAChart = 1,
     #[error("a size, count, place, least step or length is outside its limits")]
-    OutsideLimits,
-    // 3
+    OutsideLimits = 2,
     #[error("a guard lists 64 places at most")]
-    GuardFull,
-    // 4
+    GuardFull = 3,
     #[error("a link joins two different places of the chart, its floor is above zero, its price is closed or at least the floor, and neither has more than 255 lifts or 1000000 ms")]
-    BadLink,
-    // 5
+    BadLink = 4,
     #[error("the goal's estimate is zero, and along a link no estimate is above the link's floor plus the estimate at its end")]
-    BadEstimate,
-    // 6
+    BadEstimate = 5,
     #[error("there is no link of that number")]
-    NoLink,
-    // 7
+    NoLink = 6,
     #[error("the link is held closed")]
-    Held,
-    // 8
+    Held = 7,
     #[error("a price is closed, or at least the link's floor with no number above the largest")]
-    BadPrice,
-    // 9
+    BadPrice = 8,
     #[error("the memory lent is too short")]
-    ShortMemory,
+    ShortMemory = 9,
 }
 
 impl Cause {
     pub fn number(self) -> u8
         ensures { result ≡ number self }
     {
-        match self {
-            Cause::NotAChart => 1,
-            Cause::OutsideLimits => 2,
-            Cause::GuardFull => 3,
-            Cause::BadLink => 4,
-            Cause::BadEstimate => 5,
-            Cause::NoLink => 6,
-            Cause::Held => 7,
-            Cause::BadPrice => 8,
-            Cause::ShortMemory => 9,
-        }
+        self as u8
     }
 }
 
