@@ -1,7 +1,8 @@
 // The links of a place, one by one.
 ghost use Rattle.std.specs.Prelude.{◌≡◌};
 ghost use Rattle.std.specs.Iterator.{YieldsFirst, item_count};
-ghost use Rattle.chart.specs.Questions.{numbers_at, numbers_left};
+ghost use Rattle.chart.specs.Links.{left};
+ghost use Rattle.chart.specs.Questions.{numbers_at};
 
 use crate::chart::Chart;
 use crate::end::End;
@@ -17,7 +18,7 @@ pub struct LinksAt<'a, C> {
 
 impl<'a, C: Chart> LinksAt<'a, C> {
     pub fn new(chart: &'a C, end: End, place: u16) -> LinksAt<'a, C>
-        ensures { numbers_left result.end (C.Chart.meaning result.chart.now) result.place result.from ≡ numbers_at end (C.Chart.meaning chart.now) place }
+        ensures { left C.Chart.meaning result ≡ numbers_at end (C.Chart.meaning chart.now) place }
     {
         LinksAt {
             chart,
@@ -31,9 +32,9 @@ impl<'a, C: Chart> LinksAt<'a, C> {
 impl<'a, C: Chart> Iterator for LinksAt<'a, C> {
     type Item = u16;
 
-    ghost next_gives = { YieldsFirst (λ s. numbers_left s.end (C.Chart.meaning s.chart.now) s.place s.from) };
+    ghost next_gives = { YieldsFirst (left C.Chart.meaning) };
 
-    ghost remaining = { item_count (λ s. numbers_left s.end (C.Chart.meaning s.chart.now) s.place s.from) };
+    ghost remaining = { item_count (left C.Chart.meaning) };
 
     fn next(&mut self) -> Option<u16> {
         let number = self.chart.next_link(self.end, self.place, self.from)?;
