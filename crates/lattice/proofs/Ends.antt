@@ -1,23 +1,41 @@
--- The link numbers at either end of links.
-use Rattle.std.proofs.Common.{◌≡◌, ℕ, true, List, length, Option, sym, ◌∙◌, subst}
-use Rattle.chart.specs.Questions.{Next}
-use Rattle.lattice_meaning.specs.Directions.{links_per_place}
+-- The links with this end at a place, of either end.
+use Rattle.std.proofs.Common.{◌≡◌, ℕ, ◌<◌, true, leb, List, [], ◌∷◌, length, filter, min, Some, None, Option, sym, ap, ◌∙◌, subst, arith}
+use Rattle.std.specs.List.{filter_map, reduce}
+use Rattle.chart.specs.Questions.{Next, leads_at}
+use Rattle.chart.specs.declared.end.End.{End}
+use Rattle.chart.specs.declared.end.End.TheVariants.{From, To}
+use Rattle.lattice_meaning.specs.Directions.{back, direction, links_per_place}
 use Rattle.lattice_meaning.specs.Numbers.{lowest_of}
 use Rattle.lattice_meaning.specs.Prices.{links}
-use Rattle.lattice_meaning.specs.Shape.{Shape, in_limits}
-use Rattle.lattice_meaning.proofs.Next.{next_into, next_out}
-use Rattle.lattice.specs.Ends.{at_end, leads_at}
-use Rattle.lattice.specs.declared.end.End.{End}
-use Rattle.lattice.specs.declared.end.End.TheVariants.{Into, OutOf}
+use Rattle.lattice_meaning.specs.Shape.{Shape, in_limits, neighbour}
+use Rattle.lattice_meaning.proofs.Cells.{neighbours_few}
+use Rattle.lattice_meaning.proofs.Next.{next_into, next_out, some_to}
+use Rattle.lattice.specs.Layouts.{at_end, link_from, number, shape}
+use Rattle.lattice.specs.declared.direction.Direction.{Direction}
+use Rattle.lattice.specs.declared.grid.Grid.{Grid}
+use Rattle.lattice.specs.declared.direction.Direction.TheVariants.{Up, Right, Down, Left}
 
 next_of : (e : End) (s : Shape) (numbers : List ℕ) → in_limits s ≡ true → (p k : ℕ) →
     Next (leads_at e p) (links s numbers) k (lowest_of k (at_end e s (length numbers) p) links_per_place)
-next_of Into = next_into
-next_of OutOf = next_out
+next_of From = next_out
+next_of To = next_into
 
--- what the loop over the directions found
-pub next_found : (e : End) (s : Shape) (numbers : List ℕ) → in_limits s ≡ true → (p k count d : ℕ) (lowest : Option ℕ) →
-    length numbers ≡ count → d ≡ links_per_place → lowest ≡ lowest_of k (at_end e s count p) d → Next (leads_at e p) (links s numbers) k lowest
-next_found e s numbers h p k count d lowest long all found =
+-- the directions in the order of their numbers
+abbrev pub all : List Direction
+all = Up ∷ Right ∷ Down ∷ Left ∷ []
+
+-- the lowest of the numbers in these directions
+pub next_least : (e : End) (s : Shape) (numbers : List ℕ) → in_limits s ≡ true → (p k count : ℕ) (r : Option ℕ) → length numbers ≡ count →
+    r ≡ reduce min (filter (leb k) (filter_map (λ d. at_end e s count p (number d)) all)) → Next (leads_at e p) (links s numbers) k r
+unfolding lowest_of
+next_least e s numbers h p k count r long least =
     subst (Next (leads_at e p) (links s numbers) k)
-    (sym (found ∙ (λ i. lowest_of k (at_end e s (sym long i) p) (all i)))) (next_of e s numbers h p k)
+    (ap (λ (n : ℕ). lowest_of k (at_end e s n p) links_per_place) long ∙ sym least) (next_of e s numbers h p k)
+
+-- the place that a link leads from is one of few
+pub from_few : (e : End) (g : Grid) (p d from : ℕ) (o : Option ℕ) → o ≡ link_from e (shape g.layout) p d → o ≡ Some from → from < 4096
+from_few From g p d from o e some =
+    let t = some_to p from (neighbour (shape g.layout) (direction d) p) (sym e ∙ some) in
+    let few = neighbours_few (shape g.layout) g.within (direction d) p t.0 t.1 in
+    omega (arith, t.2)
+from_few To g p d from o e some = (neighbours_few (shape g.layout) g.within (direction (back d)) p from (sym e ∙ some)).1

@@ -1,7 +1,8 @@
 -- What holds between a place and its neighbour in a direction.
 use Rattle.std.proofs.Common.{◌≡◌, ℕ, ◌+◌, ◌*◌, ◌/◌, ◌%◌, ◌<◌, ◌≤◌, Bool, true, false, cond, ◌&&◌, ltb, leb, Some, None, Option, sym, ap, ◌∙◌, arith}
 use Rattle.std.proofs.lemmas.Nat.{div-add-mod', div-mul-add, mod-mul-add, mul-add-lt}
-use Rattle.std.proofs.lemmas.Bool.{and_from, and_parts, le-leb, leb-true, lt-ltb, ltb-true}
+use Rattle.std.proofs.lemmas.Bool.{and_from, and_parts, cond-true, le-leb, leb-true, lt-ltb, ltb-true}
+use Rattle.std.proofs.lemmas.Option.{cond_some}
 use Rattle.lattice_meaning.specs.Directions.{Direction, turned}
 use Rattle.lattice_meaning.specs.Shape.{Shape, column, in_limits, neighbour, next_column, next_row, place_count, row, stays_inside}
 use Rattle.lattice_meaning.proofs.Limits.{column_in, limits, row_in}
@@ -15,20 +16,12 @@ pub record Neighbours (s : Shape) (d : Direction) (p q : ℕ) : Type 0 where
   pub column_is : column s q ≡ next_column s d p
   pub row_is : row s q ≡ next_row s d p
 
-when_some : (b : Bool) (a q : ℕ) → cond b (Some a) None ≡ Some q → (b ≡ true) × (a ≡ q)
-when_some true a q e = ((λ i. true), cc)
-when_some false a q e = let z : ◌≡◌ {A = ℕ} 0 1 = cc in absurd (omega arith)
-
-some_when : (b : Bool) (a q : ℕ) → b ≡ true → a ≡ q → cond b (Some a) None ≡ Some q
-some_when true a q e h = ap Some h
-some_when false a q e h = let z : ◌≡◌ {A = ℕ} 0 1 = cc in absurd (omega arith)
-
 module _ (s : Shape) (w : 1 ≤ s.width) (d : Direction) (p q : ℕ) where
   pub neighbours : neighbour s d p ≡ Some q → Neighbours s d p q
   neighbours e =
       let x = next_column s d p in
       let y = next_row s d p in
-      let h = when_some (stays_inside s d p) (y * s.width + x) q e in
+      let h = cond_some (stays_inside s d p) (y * s.width + x) q e in
       let across = leb d.left (column s p) && ltb x s.width in
       let along = leb d.up (row s p) && ltb y s.height in
       let a = and_parts (ltb p (place_count s) && across) along h.0 in
@@ -55,18 +48,18 @@ module _ (s : Shape) (w : 1 ≤ s.width) (d : Direction) (p q : ℕ) where
       let along = leb d.up (row s p) && ltb y s.height in
       let x_in : x < s.width = omega (arith, n.column_is, column_in s w q) in
       let y_in : y < s.height = omega (arith, n.row_is, row_in s w q n.to_in) in
-      some_when (stays_inside s d p) (y * s.width + x) q
+      cond-true (stays_inside s d p) (Some (y * s.width + x)) None
       (and_from (ltb p (place_count s) && across) along
       (and_from (ltb p (place_count s)) across (lt-ltb p (place_count s) n.from_in)
       (and_from (leb d.left (column s p)) (ltb x s.width) (le-leb d.left (column s p) n.left_in) (lt-ltb x s.width x_in)))
       (and_from (leb d.up (row s p)) (ltb y s.height) (le-leb d.up (row s p) n.up_in) (lt-ltb y s.height y_in)))
-      ((λ i. sym n.row_is i * s.width + sym n.column_is i) ∙ div-add-mod' q s.width)
+      ∙ ap Some ((λ i. sym n.row_is i * s.width + sym n.column_is i) ∙ div-add-mod' q s.width)
 
 -- neighbours are places, of which there are few
-pub neighbours_few : (s : Shape) → in_limits s ≡ true → (d : Direction) (p q : ℕ) (o : Option ℕ) → o ≡ neighbour s d p → o ≡ Some q → (p < 4096) × (q < 4096)
-neighbours_few s h d p q o e some =
+pub neighbours_few : (s : Shape) → in_limits s ≡ true → (d : Direction) (p q : ℕ) → neighbour s d p ≡ Some q → (p < 4096) × (q < 4096)
+neighbours_few s h d p q e =
     let l = limits s h in
-    let n = neighbours s l.wide d p q (sym e ∙ some) in
+    let n = neighbours s l.wide d p q e in
     (omega (arith, l.places_few, n.from_in), omega (arith, l.places_few, n.to_in))
 
 -- and p is the neighbour of q the other way

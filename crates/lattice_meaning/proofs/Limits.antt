@@ -52,8 +52,8 @@ row_in s w p h = div_below p s.width s.height w (omega arith)
 -- what may be laid out
 none_refused : (a b : Bool) (first second : Refusal) → cond a (cond b None (Some second)) (Some first) ≡ None → (a ≡ true) × (b ≡ true)
 none_refused true true first second e = (refl, refl)
-none_refused true false first second e = let z : ◌≡◌ {A = ℕ} 0 1 = cc in absurd (omega arith)
-none_refused false b first second e = let z : ◌≡◌ {A = ℕ} 0 1 = cc in absurd (omega arith)
+none_refused true false first second e = cc
+none_refused false b first second e = cc
 
 pub not_refused : (s : Shape) (room : ℕ) → layout_refusal s room ≡ None → (in_limits s ≡ true) × (link_count s ≤ room)
 not_refused s room e =

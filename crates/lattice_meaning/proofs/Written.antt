@@ -1,8 +1,8 @@
 -- Numbers that are written: the first prices, and one price that is set.
-use Rattle.std.proofs.Common.{◌≡◌, ℕ, ◌+◌, ◌<◌, ◌≤◌, Bool, true, ◌&&◌, ◌||◌, eqb, leb, List, [], ◌∷◌, ◌++◌, map, length, get_or, take, drop, set, Some, None, Option, sym, refl, ap, ◌∙◌, subst, ⊎_elim, append_assoc, arith}
+use Rattle.std.proofs.Common.{◌≡◌, ℕ, ◌+◌, ◌<◌, ◌≤◌, Bool, true, ◌&&◌, ◌||◌, eqb, leb, List, [], ◌∷◌, ◌++◌, map, length, get_or, take, drop, set, Some, None, Option, sym, refl, ap, ◌∙◌, subst, ⊎_elim, append_assoc, append-nil, arith}
 use Rattle.std.specs.List.{range_with_len}
 use Rattle.std.proofs.lemmas.List.FromFn.{get_or-map-range_with_len, length-map-range_with_len, map-range_with_len_more}
-use Rattle.std.proofs.lemmas.List.{drop_more, ext_get_or, get_or-set_other, get_or-set_same, length-set, set_at, take_at}
+use Rattle.std.proofs.lemmas.List.{drop_all, drop_more, ext_get_or, get_or-set_other, get_or-set_same, length-set, set_at, take_at}
 use Rattle.std.proofs.lemmas.Bool.{and_from, cases_eq, le-leb, or_right}
 use Rattle.chart.specs.Meaning.{Link, link_at, priced, with_price}
 use Rattle.price.specs.Kinds.{time_kind}
@@ -42,6 +42,11 @@ written_more s before n l =
     ∙ set_at (map f (range_with_len 0 n)) _ (drop (n + 1) before) (f n) n (length-map-range_with_len f 0 n)
     ∙ sym (append_assoc (map f (range_with_len 0 n)) (f n ∷ []) (drop (n + 1) before))
     ∙ ap (λ (r : List ℕ). r ++ drop (n + 1) before) (sym (map-range_with_len_more f 0 n n (omega arith)))
+
+pub written_all : (s : Shape) (before now : List ℕ) (n : ℕ) → n ≡ link_count s → length before ≤ n →
+    now ≡ map (first_price s) (range_with_len 0 n) ++ drop n before → now ≡ first_prices s
+written_all s before now n same l e =
+    e ∙ (λ i. map (first_price s) (range_with_len 0 (same i)) ++ drop_all n before l i) ∙ append-nil (first_prices s)
 
 -- the numbers in use after that
 pub written_front : (s : Shape) (before after : List ℕ) (count : ℕ) → count ≡ link_count s → after ≡ first_prices s ++ drop (link_count s) before →
