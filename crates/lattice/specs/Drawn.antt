@@ -13,8 +13,8 @@ numbers_of c = take c.link_count c.prices.now
 
 -- time prices, height 0, over the numbers in use
 abbrev pub chart_of : Lattice → Meaning
-chart_of c = lattice (shape c.grid.layout) (numbers_of c)
+chart_of c = lattice (shape c.layout) (numbers_of c)
 
 -- its laws follow from the rules that every value of the type keeps
 pub chart_lawful : (c : Lattice) → Lawful (chart_of c)
-chart_lawful c = lattice_lawful (shape c.grid.layout) (numbers_of c) c.grid.within c.counted c.priced
+chart_lawful c = lattice_lawful (shape c.layout) (numbers_of c) c.within c.counted c.priced

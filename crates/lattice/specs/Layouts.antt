@@ -1,5 +1,5 @@
 -- Layouts, and the directions and cells of a lattice as the code steps through them.
-use Rattle.std.specs.Prelude.{ℕ, ◌+◌, ◌-◌, List, [], ◌∷◌, cond, ◌&&◌, Some, None, Option, nat_le}
+use Rattle.std.specs.Prelude.{ℕ, ◌+◌, ◌-◌, cond, ◌&&◌, Some, None, Option, nat_le}
 use Rattle.std.specs.Option.{option_map}
 use Rattle.chart.specs.declared.end.End.{End}
 use Rattle.chart.specs.declared.end.End.TheVariants.{From, To}

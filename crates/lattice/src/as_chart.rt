@@ -14,15 +14,15 @@ impl<'a> Chart for Lattice<'a> {
     ghost lawful = { chart_lawful };
 
     fn places(&self) -> u16 {
-        self.grid.places()
+        self.grid().places()
     }
 
     fn start(&self) -> u16 {
-        self.grid.layout.start
+        self.layout.start
     }
 
     fn goal(&self) -> u16 {
-        self.grid.layout.goal
+        self.layout.goal
     }
 
     fn height(&self) -> u8 {
@@ -38,7 +38,7 @@ impl<'a> Chart for Lattice<'a> {
     }
 
     fn estimate(&self, place: u16) -> Option<Time> {
-        self.grid.estimate(place)
+        self.grid().estimate(place)
     }
 
     fn next_link(&self, end: End, place: u16, from: u16) -> Option<u16> {

@@ -23,17 +23,6 @@ pub(crate) struct Grid {
 }
 
 impl Grid {
-    // What a lattice is before it is laid out.
-    pub(crate) const ONE_CELL: Grid = Grid {
-        layout: Layout {
-            width: 1,
-            height: 1,
-            least: 1,
-            start: 0,
-            goal: 0,
-        },
-    };
-
     // Refused by 2.
     pub(crate) fn new(layout: Layout) -> Result<Grid, ChartFault>
         ensures answer { refused result ≡ shape_refusal (shape layout) }

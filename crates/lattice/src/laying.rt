@@ -33,7 +33,13 @@ impl<'a> Lattice<'a> {
     {
         Lattice {
             prices,
-            grid: Grid::ONE_CELL,
+            layout: Layout {
+                width: 1,
+                height: 1,
+                least: 1,
+                start: 0,
+                goal: 0,
+            },
             link_count: 0,
         }
     }
@@ -60,7 +66,7 @@ impl<'a> Lattice<'a> {
         ensures lender { self.new.prices.ghost_name ≡ self.old.prices.ghost_name }
     {
         grid.write_first_prices(self.prices);
-        self.grid = grid;
+        self.layout = grid.layout;
         self.link_count = grid.links();
     }
 }

@@ -38,12 +38,12 @@ impl Lattice<'_> {
         if number >= self.link_count {
             return None;
         }
-        let to = self.grid.leads_to(number)?;
+        let to = self.grid().leads_to(number)?;
         Some(Link {
             from: number / LINKS_PER_PLACE,
             to,
             floor: Time::Open {
-                ms: self.grid.layout.least.into(),
+                ms: self.layout.least.into(),
             },
             price: price_of(self.prices[usize::from(number)]),
             held: 0,
@@ -52,9 +52,9 @@ impl Lattice<'_> {
 
     // The number of the link in a direction with this end at a place.
     fn link_toward(&self, end: End, place: u16, toward: Direction) -> Option<u16>
-        ensures { result ≡ at_end end (shape self.now.grid.layout) self.now.link_count place (number toward) }
+        ensures { result ≡ at_end end (shape self.now.layout) self.now.link_count place (number toward) }
     {
-        let from = self.grid.link_from(end, place, toward)?;
+        let from = self.grid().link_from(end, place, toward)?;
         let link = LINKS_PER_PLACE * from + toward.number();
         (link < self.link_count).then_some(link)
     }

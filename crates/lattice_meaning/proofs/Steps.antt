@@ -1,7 +1,7 @@
 -- Each direction of the list leads one step, and the distance to the goal falls by at most one.
-use Rattle.std.proofs.Common.{◌≡◌, ℕ, zero, suc, ◌+◌, ◌-◌, ◌*◌, ◌/◌, ◌%◌, ◌<◌, ◌≤◌, List, [], ◌∷◌, length, get_or, refl, ap, subst, mul-one, mul-add, arith}
+use Rattle.std.proofs.Common.{◌≡◌, ℕ, zero, suc, ◌+◌, ◌-◌, ◌*◌, ◌/◌, ◌%◌, ◌<◌, ◌≤◌, refl, ap, mul-one, mul-add, arith}
 use Rattle.std.proofs.lemmas.Nat.{mul-le}
-use Rattle.lattice_meaning.specs.Directions.{Direction, back, direction, directions, links_per_place, still, turned}
+use Rattle.lattice_meaning.specs.Directions.{Direction, back, direction, links_per_place, turned}
 use Rattle.lattice_meaning.specs.Prices.{apart, distance}
 use Rattle.lattice_meaning.specs.Shape.{Shape, column, place_count, row}
 use Rattle.lattice_meaning.proofs.Cells.{Neighbours}

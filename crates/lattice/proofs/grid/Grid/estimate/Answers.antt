@@ -1,4 +1,4 @@
-use Rattle.std.proofs.Common.{◌≡◌, ℕ, ◌*◌, ◌<◌, ◌≤◌, Some, sym, ap, ◌∙◌, arith}
+use Rattle.std.proofs.Common.{◌≡◌, ℕ, ◌*◌, Some, sym, ap, ◌∙◌, arith}
 use Rattle.lattice_meaning.specs.Prices.{distance, time}
 use Rattle.lattice_meaning.proofs.Limits.{limits}
 use Rattle.lattice_meaning.proofs.Steps.{estimate_most}

@@ -1,4 +1,4 @@
-use Rattle.std.proofs.Common.{◌≡◌, ◌≤◌, length, take, sym, refl, ap, subst, arith}
+use Rattle.std.proofs.Common.{◌≡◌, ◌≤◌, length, take, sym, ap, subst, arith}
 use Rattle.lattice_meaning.specs.Prices.{Counted, Priced, Unlinked, first_prices, lattice}
 use Rattle.lattice_meaning.proofs.Limits.{not_refused}
 use Rattle.lattice_meaning.proofs.Written.{first_ruled, written_front}
@@ -14,6 +14,7 @@ invariant_of-self c =
     sym (written_front s c.args.self.now.prices.now c.write_first_prices.new.prices c.links-self.result c.links-self.ensures c.write_first_prices.ensures) in
     let room : c.links-self.result ≤ length c.write_first_prices.new.prices = omega (arith, fit.1, c.write_first_prices.auto.prices) in
     record {
+      within = c.args.grid.within;
       room = room;
       counted = subst (Counted s) same rules.counted;
       priced = subst (Priced s) same rules.priced;

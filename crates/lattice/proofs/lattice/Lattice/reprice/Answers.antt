@@ -1,4 +1,4 @@
-use Rattle.std.proofs.Common.{◌≡◌, ℕ, ◌<◌, ◌≤◌, length, take, set, None, sym, refl, ap, ◌∙◌, subst, arith}
+use Rattle.std.proofs.Common.{◌≡◌, ℕ, ◌<◌, ◌≤◌, length, take, set, None, sym, ap, ◌∙◌, subst, arith}
 use lib.Seq.{take-set-lt}
 use Rattle.rows.specs.Rows.{Price}
 use Rattle.chart.specs.Refusals.{refusal}
@@ -14,10 +14,10 @@ use Rattle.lattice.proofs.lattice.Lattice.reprice.Goals as goal
 
 module _ (l : Lattice) (n : ℕ) (p : Price) (e : refusal (chart_of l) n p ≡ None) where
   in_table : n < l.link_count
-  in_table = omega (arith, (accepted (shape l.grid.layout) (numbers_of l) n p e).in_table, length-take-le l.link_count l.prices.now l.room)
+  in_table = omega (arith, (accepted (shape l.layout) (numbers_of l) n p e).in_table, length-take-le l.link_count l.prices.now l.room)
 
-  after : Repriced (shape l.grid.layout) (numbers_of l) n p
-  after = repriced (shape l.grid.layout) (numbers_of l) n p (limits (shape l.grid.layout) l.grid.within).step l.counted l.priced l.unlinked e
+  after : Repriced (shape l.layout) (numbers_of l) n p
+  after = repriced (shape l.layout) (numbers_of l) n p (limits (shape l.layout) l.within).step l.counted l.priced l.unlinked e
 
   -- the numbers in use after the write
   written : (m v : ℕ) → m ≡ n → v ≡ number_of p → set (numbers_of l) n (number_of p) ≡ take l.link_count (set l.prices.now m v)
@@ -30,13 +30,14 @@ bounds-self-from c = omega (arith, in_table c.args.self.now c.args.link (time_va
 pub invariant_of-self : goal.invariant_of-self
 invariant_of-self c =
     let l = c.args.self.now in
-    let s = shape l.grid.layout in
+    let s = shape l.layout in
     let p = time_value c.args.price in
     let rules = after l c.args.link p c.requires in
     let same = written l c.args.link p c.requires c.from.result c.number_of.result c.from.ensures c.number_of.ensures in
     let room : l.link_count ≤ length (set l.prices.now c.from.result c.number_of.result) =
     omega (arith, l.room, length-set l.prices.now c.from.result c.number_of.result) in
     record {
+      within = l.within;
       room = room;
       counted = subst (Counted s) same rules.counted;
       priced = subst (Priced s) same rules.in_range;
@@ -47,5 +48,5 @@ pub returns-clause-after : goal.returns-clause-after
 returns-clause-after c =
     let l = c.args.self.now in
     let p = time_value c.args.price in
-    sym (ap (lattice (shape l.grid.layout)) (written l c.args.link p c.requires c.from.result c.number_of.result c.from.ensures c.number_of.ensures))
+    sym (ap (lattice (shape l.layout)) (written l c.args.link p c.requires c.from.result c.number_of.result c.from.ensures c.number_of.ensures))
     ∙ (after l c.args.link p c.requires).means

@@ -8,4 +8,4 @@ use Rattle.lattice.proofs.lattice.Lattice.table_length.Goals as goal
 pub returns : goal.returns
 returns c =
     let l = c.args.self.now in
-    sym (links_long (shape l.grid.layout) (numbers_of l) ∙ length-take-le l.link_count l.prices.now l.room)
+    sym (links_long (shape l.layout) (numbers_of l) ∙ length-take-le l.link_count l.prices.now l.room)
