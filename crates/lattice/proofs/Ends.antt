@@ -1,7 +1,6 @@
 -- The links with one end at a place, of either end.
 use Rattle.std.proofs.Common.{◌≡◌, ℕ, ◌<◌, true, leb, List, [], ◌∷◌, length, filter, min, Some, Option, sym, ap, ◌∙◌, subst, arith}
 use Rattle.std.specs.List.{filter_map, reduce}
-use Rattle.std.proofs.lemmas.List.{length-take-le}
 use Rattle.chart.specs.Questions.{Next, leads_at}
 use Rattle.chart.specs.declared.end.End.{End}
 use Rattle.chart.specs.declared.end.End.TheVariants.{From, To}
@@ -11,6 +10,7 @@ use Rattle.lattice_meaning.specs.Prices.{links}
 use Rattle.lattice_meaning.specs.Shape.{Shape, in_limits, neighbour}
 use Rattle.lattice_meaning.proofs.Cells.{neighbours_few}
 use Rattle.lattice_meaning.proofs.Next.{next_into, next_out, some_to}
+use Rattle.lattice.proofs.InUse.{numbers_long}
 use Rattle.lattice.specs.Drawn.{chart_of, numbers_of}
 use Rattle.lattice.specs.Layouts.{at_end, link_from, number, shape}
 use Rattle.lattice.specs.declared.direction.Direction.{Direction}
@@ -34,7 +34,7 @@ unfolding lowest_of
 next_least e l p k r least =
     let s = shape l.layout in
     subst (Next (leads_at e p) (links s (numbers_of l)) k)
-    (ap (λ (n : ℕ). lowest_of k (at_end e s n p) links_per_place) (length-take-le l.link_count l.prices.now l.room) ∙ sym least)
+    (ap (λ (n : ℕ). lowest_of k (at_end e s n p) links_per_place) (numbers_long l) ∙ sym least)
     (next_of e s (numbers_of l) l.within p k)
 
 -- the place that a link leads from is one of few

@@ -7,6 +7,7 @@ mod grid;
 pub mod lattice;
 pub mod laying;
 pub mod layout;
+mod numbers;
 mod questions;
 mod repricing;
 

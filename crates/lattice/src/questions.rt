@@ -4,24 +4,14 @@ ghost use Rattle.chart.specs.Meaning.{link_at};
 ghost use Rattle.chart.specs.Questions.{Next, answered, leads_at};
 ghost use Rattle.lattice.specs.Drawn.{chart_of};
 ghost use Rattle.lattice.specs.Layouts.{at_end, number, shape};
-ghost use Rattle.lattice_meaning.specs.Prices.{price_of};
 ghost use Rattle.price.specs.Kinds.{time_value};
 ghost use Rattle.std.specs.Option.{option_map};
 
 use crate::direction::{Direction, LINKS_PER_PLACE};
 use crate::lattice::Lattice;
+use crate::numbers::price_of;
 use chart::{End, Link};
 use price::Time;
-
-// A number of 0 is closed.
-fn price_of(number: u32) -> Time
-    ensures { time_value result ≡ price_of number }
-{
-    match number {
-        0 => Time::Closed,
-        ms => Time::Open { ms: ms.into() },
-    }
-}
 
 impl Lattice<'_> {
     // How many link numbers the table has.

@@ -1,25 +1,13 @@
 // Setting one price.
-ghost use Rattle.std.specs.Prelude.{◌≡◌, true, None};
+ghost use Rattle.std.specs.Prelude.{◌≡◌, None};
 ghost use Rattle.chart.specs.Meaning.{priced};
 ghost use Rattle.chart.specs.Refusals.{refusal};
 ghost use Rattle.lattice.specs.Drawn.{chart_of};
-ghost use Rattle.lattice_meaning.specs.Prices.{number_of};
-ghost use Rattle.price.specs.Kinds.{time_kind, time_value};
-ghost use Rattle.rows.specs.Rows.{linkable};
+ghost use Rattle.price.specs.Kinds.{time_value};
 
 use crate::lattice::Lattice;
+use crate::numbers::number_of;
 use price::Time;
-
-// The number that a price of a link is written as.
-fn number_of(price: Time) -> u32
-    requires { linkable time_kind (time_value price) ≡ true }
-    ensures { result ≡ number_of (time_value price) }
-{
-    match price {
-        Time::Open { ms } => ms.get() as u32,
-        Time::Closed => 0,
-    }
-}
 
 impl Lattice<'_> {
     // Writes the price of a link that may have it.

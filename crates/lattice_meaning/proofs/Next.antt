@@ -1,7 +1,7 @@
 -- The link numbers out of a place and into it are those of the directions.
-use Rattle.std.proofs.Common.{◌≡◌, ℕ, ◌+◌, ◌*◌, ◌%◌, ◌<◌, ◌≤◌, Bool, true, false, ltb, List, length, get_or, Some, None, Option, sym, refl, ap, ◌∙◌, ⊎_elim, arith}
-use Rattle.std.proofs.lemmas.Bool.{both_ways, cases_lt, cond-true, eq-eqb, eqb-true, lt-ltb, ltb-true}
-use Rattle.std.proofs.lemmas.Option.{cond_some}
+use Rattle.std.proofs.Common.{◌≡◌, ℕ, ◌+◌, ◌*◌, ◌%◌, ◌<◌, ◌≤◌, Bool, true, false, List, length, get_or, Some, None, Option, sym, refl, ap, ◌∙◌, ⊎_elim, arith}
+use Rattle.std.proofs.lemmas.Bool.{both_ways, cases_lt, eq-eqb, eqb-true}
+use Rattle.std.proofs.lemmas.Bool.Decides.{nat_tests}
 use Rattle.std.specs.Option.{option_map}
 use Rattle.chart.specs.Meaning.{Link}
 use Rattle.chart.specs.Questions.{Next, leads_into, leads_out}
@@ -16,14 +16,13 @@ use Rattle.lattice_meaning.proofs.Steps.{back_turned}
 use Rattle.lattice_meaning.proofs.Table.{link_is, link_past, links_long}
 
 counted_is : (count n : ℕ) → n < count → counted count n ≡ Some n
-counted_is count n l = cond-true (ltb n count) (Some n) None (lt-ltb n count l)
+counted_is count n l = grind (arith, nat_tests)
 
 -- a number that is answered is one of the table, from the place that was found
 some_from : (count d n : ℕ) (o : Option ℕ) → number_from count d o ≡ Some n → (from : ℕ) × (o ≡ Some from) × (n < count) × (links_per_place * from + d ≡ n)
 some_from count d n None e = cc
 some_from count d n (Some from) e =
-    let t = cond_some (ltb (links_per_place * from + d) count) (links_per_place * from + d) n e in
-    (from, refl, rw t.1 at (ltb-true (links_per_place * from + d) count t.0), t.1)
+    (from, refl, grind (arith, nat_tests), grind (arith, nat_tests))
 
 -- and there is a neighbour that it leads to
 pub some_to : (p q : ℕ) (o : Option ℕ) → option_map (λ (to : ℕ). p) o ≡ Some q → (to : ℕ) × (o ≡ Some to) × (p ≡ q)
