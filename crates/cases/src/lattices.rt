@@ -31,8 +31,14 @@ fn two_cells_side_by_side(rt: HostRuntime) -> Result<(), Fail> {
     assert_eq!(rt; bed.next_link(End::From, 0, 0), Some(1));
     assert_eq!(rt; bed.next_link(End::To, 0, 0), Some(7));
     assert_eq!(rt; bed.nth_link(End::From, 0, 1), None);
-    assert_eq!(rt; bed.set_price(1, ms(4)), Err(ChartFault::at_link(Cause::BadPrice, 1)));
-    assert_eq!(rt; bed.set_price(0, ms(5)), Err(ChartFault::at_link(Cause::NoLink, 0)));
+    assert_eq!(rt;
+        bed.set_price(1, ms(4)),
+        Err(ChartFault::at_link(Cause::BadPrice, 1))
+    );
+    assert_eq!(rt;
+        bed.set_price(0, ms(5)),
+        Err(ChartFault::at_link(Cause::NoLink, 0))
+    );
     assert_eq!(rt; bed.set_price(1, Time::Closed), Ok(()));
     assert!(rt; bed.link(8).is_none());
     Ok(())

@@ -1,8 +1,9 @@
 // The cells of a layout, where its link numbers lead, and its estimates.
 ghost use Rattle.std.specs.Prelude.{◌≡◌, ◌<◌, ◌≤◌, true, ◌++◌, length, drop};
 ghost use Rattle.chart.specs.Refusals.{refused};
-ghost use Rattle.lattice.specs.Layouts.{link_from, number, shape, shape_refusal};
+ghost use Rattle.lattice.specs.Layouts.{number, shape, shape_refusal};
 ghost use Rattle.lattice_meaning.specs.Directions.{direction};
+ghost use Rattle.lattice_meaning.specs.Numbers.{link_from};
 ghost use Rattle.lattice_meaning.specs.Prices.{distance, estimates, first_price, first_prices};
 ghost use Rattle.lattice_meaning.specs.Shape.{in_limits, leads_to, link_count, neighbour, place_count};
 ghost use Rattle.price.specs.Kinds.{time_value};
@@ -110,7 +111,8 @@ impl Grid {
         self.leads_to(link).map_or(0, |_to| self.layout.least)
     }
 
-    // Writes the first prices over the first numbers of the memory; what lies past them stays.
+    // Writes the first prices over the first numbers of the memory; what lies past them stays. There are 16,384 at most,
+    // so a link number has 16 bits.
     pub(crate) fn write_first_prices(self, prices: &mut [u32])
         requires { link_count (shape self.layout) ≤ length prices.old }
         ensures { prices.new ≡ first_prices (shape self.layout) ++ drop (link_count (shape self.layout)) prices.old }

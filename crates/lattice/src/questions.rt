@@ -3,7 +3,8 @@ ghost use Rattle.std.specs.Prelude.{◌≡◌, length};
 ghost use Rattle.chart.specs.Meaning.{link_at};
 ghost use Rattle.chart.specs.Questions.{Next, answered, leads_at};
 ghost use Rattle.lattice.specs.Drawn.{chart_of};
-ghost use Rattle.lattice.specs.Layouts.{at_end, number, shape};
+ghost use Rattle.lattice.specs.Layouts.{number, shape};
+ghost use Rattle.lattice_meaning.specs.Numbers.{number_at};
 ghost use Rattle.price.specs.Kinds.{time_value};
 ghost use Rattle.std.specs.Option.{option_map};
 
@@ -42,7 +43,7 @@ impl Lattice<'_> {
 
     // The number of the link in a direction with this end at a place.
     fn link_toward(&self, end: End, place: u16, toward: Direction) -> Option<u16>
-        ensures { result ≡ at_end end (shape self.now.layout) self.now.link_count place (number toward) }
+        ensures { result ≡ number_at end (shape self.now.layout) self.now.link_count place (number toward) }
     {
         let from = self.grid().link_from(end, place, toward)?;
         let link = LINKS_PER_PLACE * from + toward.number();

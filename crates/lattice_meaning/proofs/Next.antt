@@ -3,13 +3,15 @@ use Rattle.std.proofs.Common.{◌≡◌, ℕ, ◌+◌, ◌*◌, ◌%◌, ◌<◌
 use Rattle.std.proofs.lemmas.Bool.{both_ways, cases_lt, eq-eqb, eqb-true}
 use Rattle.std.proofs.lemmas.Bool.Decides.{nat_tests}
 use Rattle.std.specs.Option.{option_map}
+use Rattle.chart.specs.declared.end.End.{End}
+use Rattle.chart.specs.declared.end.End.TheVariants.{From, To}
 use Rattle.chart.specs.Meaning.{Link}
-use Rattle.chart.specs.Questions.{Next, leads_into, leads_out}
+use Rattle.chart.specs.Questions.{Next, leads_at, leads_into, leads_out}
 use Rattle.lattice_meaning.specs.Directions.{back, direction, links_per_place, turned}
-use Rattle.lattice_meaning.specs.Numbers.{arriving, counted, leaving, lowest_of, number_from}
+use Rattle.lattice_meaning.specs.Numbers.{counted, link_from, lowest_of, number_at, number_from}
 use Rattle.lattice_meaning.specs.Prices.{link_to, links}
 use Rattle.lattice_meaning.specs.Shape.{Shape, in_limits, leads_from, leads_to, neighbour}
-use Rattle.lattice_meaning.proofs.Cells.{neighbour_is, neighbours, neighbours_turned}
+use Rattle.lattice_meaning.proofs.Cells.{neighbour_is, neighbours, neighbours_few, neighbours_turned}
 use Rattle.lattice_meaning.proofs.Limits.{Limits, limits}
 use Rattle.lattice_meaning.proofs.Lowest.{AllThatPass, next_lowest}
 use Rattle.lattice_meaning.proofs.Steps.{back_turned}
@@ -25,7 +27,7 @@ some_from count d n (Some from) e =
     (from, refl, grind (arith, nat_tests), grind (arith, nat_tests))
 
 -- and there is a neighbour that it leads to
-pub some_to : (p q : ℕ) (o : Option ℕ) → option_map (λ (to : ℕ). p) o ≡ Some q → (to : ℕ) × (o ≡ Some to) × (p ≡ q)
+some_to : (p q : ℕ) (o : Option ℕ) → option_map (λ (to : ℕ). p) o ≡ Some q → (to : ℕ) × (o ≡ Some to) × (p ≡ q)
 some_to p q None e = cc
 some_to p q (Some to) e = (to, refl, cc)
 
@@ -67,7 +69,7 @@ module _ (s : Shape) (lim : Limits s) where
     linked : (n q : ℕ) → n < length numbers → leads_to s n ≡ Some q → get_or (links s numbers) n None ≡ link_to s n (get_or numbers n 0) (Some q)
     linked n q l e = link_is s numbers n l ∙ ap (link_to s n (get_or numbers n 0)) e
 
-    out_passes : (p : ℕ) → AllThatPass (leads_out p) (links s numbers) (leaving s (length numbers) p) links_per_place
+    out_passes : (p : ℕ) → AllThatPass (leads_out p) (links s numbers) (number_at From s (length numbers) p) links_per_place
     out_passes p = record {
       passes = λ d n l e.
           let a = some_from (length numbers) d n (option_map (λ to. p) (neighbour s (direction d) p)) e in
@@ -87,7 +89,7 @@ module _ (s : Shape) (lim : Limits s) where
           );
     }
 
-    into_passes : (p : ℕ) → AllThatPass (leads_into p) (links s numbers) (arriving s (length numbers) p) links_per_place
+    into_passes : (p : ℕ) → AllThatPass (leads_into p) (links s numbers) (number_at To s (length numbers) p) links_per_place
     into_passes p = record {
       passes = λ d n l e.
           let a = some_from (length numbers) d n (neighbour s (direction (back d)) p) e in
@@ -106,10 +108,15 @@ module _ (s : Shape) (lim : Limits s) where
           );
     }
 
-pub next_out : (s : Shape) (numbers : List ℕ) → in_limits s ≡ true → (p k : ℕ) →
-    Next (leads_out p) (links s numbers) k (lowest_of k (leaving s (length numbers) p) links_per_place)
-next_out s numbers h p k = next_lowest (leads_out p) (links s numbers) (leaving s (length numbers) p) links_per_place (out_passes s (limits s h) numbers p) k
+pub next_at : (e : End) (s : Shape) (numbers : List ℕ) → in_limits s ≡ true → (p k : ℕ) →
+    Next (leads_at e p) (links s numbers) k (lowest_of k (number_at e s (length numbers) p) links_per_place)
+next_at From s numbers h p k = next_lowest (leads_out p) (links s numbers) (number_at From s (length numbers) p) links_per_place (out_passes s (limits s h) numbers p) k
+next_at To s numbers h p k = next_lowest (leads_into p) (links s numbers) (number_at To s (length numbers) p) links_per_place (into_passes s (limits s h) numbers p) k
 
-pub next_into : (s : Shape) (numbers : List ℕ) → in_limits s ≡ true → (p k : ℕ) →
-    Next (leads_into p) (links s numbers) k (lowest_of k (arriving s (length numbers) p) links_per_place)
-next_into s numbers h p k = next_lowest (leads_into p) (links s numbers) (arriving s (length numbers) p) links_per_place (into_passes s (limits s h) numbers p) k
+-- the place that a link leads from is one of few
+pub from_few : (e : End) (s : Shape) → in_limits s ≡ true → (p d from : ℕ) (o : Option ℕ) → o ≡ link_from e s p d → o ≡ Some from → from < 4096
+from_few From s h p d from o e some =
+    let t = some_to p from (neighbour s (direction d) p) (sym e ∙ some) in
+    let few = neighbours_few s h (direction d) p t.0 t.1 in
+    omega (arith, t.2)
+from_few To s h p d from o e some = (neighbours_few s h (direction (back d)) p from (sym e ∙ some)).1

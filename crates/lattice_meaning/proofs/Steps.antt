@@ -27,13 +27,7 @@ back_turned (suc (suc (suc (suc d)))) l = absurd (omega arith)
 
 -- so far back and on, a number is no nearer to a third than by both
 closer : (a b g less more : ℕ) → less ≤ a → b ≡ a + more - less → apart a g ≤ less + more + apart b g
-closer a b g less more l e = let e : b + less ≡ a + more = omega arith in bounded a b g less more e
-  where
-    bounded : (a b g less more : ℕ) → b + less ≡ a + more → apart a g ≤ less + more + apart b g
-    bounded a b g less more e = omega arith
-
-both : (a b c d k l : ℕ) → a ≤ k + b → c ≤ l + d → k + l ≡ 1 → a + c ≤ 1 + (b + d)
-both a b c d k l h g e = omega arith
+closer a b g less more l e = omega arith
 
 module _ (s : Shape) (d : Direction) (p q : ℕ) (one : OneStep d) (n : Neighbours s d p q) where
   -- neighbours are two places
@@ -45,9 +39,10 @@ module _ (s : Shape) (d : Direction) (p q : ℕ) (one : OneStep d) (n : Neighbou
 
   nearer : distance s p ≤ 1 + distance s q
   nearer =
-      both _ _ _ _ _ _
-      (closer (column s p) (column s q) (column s s.goal) d.left d.right n.left_in n.column_is)
-      (closer (row s p) (row s q) (row s s.goal) d.up d.down n.up_in n.row_is) (omega arith)
+      let x = closer (column s p) (column s q) (column s s.goal) d.left d.right n.left_in n.column_is in
+      let y = closer (row s p) (row s q) (row s s.goal) d.up d.down n.up_in n.row_is in
+      let long : d.left + d.right + d.up + d.down ≡ 1 = one in
+      omega arith
 
   pub least_nearer : s.least * distance s p ≤ s.least + s.least * distance s q
   least_nearer =
