@@ -29,7 +29,7 @@ pub struct Lattice<'a> {
 }
 
 impl Lattice<'_> {
-    // Its cells.
+    // The grid of its cells.
     pub(crate) fn grid(&self) -> Grid
         ensures { result.layout ≡ self.now.layout }
     {
