@@ -1,7 +1,7 @@
 // The lattice by tables: asked everything, priced, its sizes and its refusals.
 use crate::lattices::{layout, ms};
 use crate::table::{Table, WayRow, check_prices, check_table};
-use chart::{Cause, Chart, ChartFault};
+use chart::{Cause, Chart, ChartFault, End};
 use lattice::Lattice;
 use price::Time;
 use std::test::Fail;
@@ -61,15 +61,6 @@ const LAYOUTS: [([u16; 4], u32, Option<Cause>, u16); 10] = [
     ([64, 1, 63, 0], 1, None, 64),
 ];
 
-// A refusal that is about no link, at height 0.
-fn refusal(cause: Option<Cause>) -> Option<ChartFault> {
-    Some(ChartFault {
-        cause: cause?,
-        link: None,
-        height: 0,
-    })
-}
-
 #[test]
 fn sizes_by_table(rt: HostRuntime) {
     let mut prices = [0u32; 256];
@@ -77,9 +68,9 @@ fn sizes_by_table(rt: HostRuntime) {
     for row in LAYOUTS {
         let ([width, height, start, goal], least, cause, places) = row;
         let answer = bed.lay_out(layout(width, height, least, start, goal));
-        assert_eq!(rt; answer.err(), refusal(cause));
+        assert_eq!(rt; answer.err(), cause.map(ChartFault::of_chart));
         assert_eq!(rt; bed.places(), places);
     }
     assert_eq!(rt; bed.estimate(63), Some(ms(63)));
-    assert_eq!(rt; bed.nth_into(1, 1), Some(11));
+    assert_eq!(rt; bed.nth_link(End::To, 1, 1), Some(11));
 }
