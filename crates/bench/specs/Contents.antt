@@ -1,6 +1,6 @@
 -- What a bench holds, as a planner speaks of it. Free besides, within the records of the places in use: which slot a
 -- queued place is in, the unused slots, and the indexes of places that are not queued.
-use Rattle.std.specs.Prelude.{◌≡◌, ℕ, ◌<◌, Bool, ◌&&◌, List, length, drop, nat_lt}
+use Rattle.std.specs.Prelude.{ℕ, ◌<◌, Bool, ◌&&◌, List, length, drop, nat_lt}
 use Rattle.rows.specs.Rows.{Price}
 use Rattle.rows.specs.Keys.{Key}
 use Rattle.bench.specs.declared.bench.Bench.{Bench}
@@ -12,10 +12,6 @@ use Rattle.bench.specs.Prices.{LeastIn, Others, SortedIn, keys_in, lookaheads_in
 -- the number of records, and so of places that the bench has room for
 abbrev pub room : {P : Type 0} → Bench P → ℕ
 room b = length b.records.now
-
--- the same lent memory, laid for the same planner
-abbrev pub SameLender : {P : Type 0} → Bench P → Bench P → Type 0
-SameLender b d = (d.records.ghost_name ≡ b.records.ghost_name) × (d.number ≡ b.number) × (room d ≡ room b)
 
 -- standing (published: g), of each place; v gives the price that a value stands for
 abbrev pub standings : {P : Type 0} → (P → Price) → Bench P → List Price
