@@ -1,37 +1,41 @@
 -- What a bench holds, as a planner speaks of it. Free besides, within the records of the places in use: which slot a
 -- queued place is in, the unused slots, and the indexes of places that are not queued.
-use Rattle.std.specs.Prelude.{ℕ, ◌<◌, Bool, ◌&&◌, List, length, drop, nat_lt}
+use Rattle.std.specs.Prelude.{◌≡◌, ℕ, ◌<◌, Bool, ◌&&◌, List, length, drop, nat_lt}
 use Rattle.rows.specs.Rows.{Price}
 use Rattle.rows.specs.Keys.{Key}
 use Rattle.bench.specs.declared.bench.Bench.{Bench}
 use Rattle.bench.specs.declared.key.Key.{Key as PriceKey}
 use Rattle.bench.specs.declared.record.Record.{Record}
-use Rattle.bench.specs.Queue.{Queued}
-use Rattle.bench.specs.Prices.{LeastIn, Others, SortedIn, keys_in, lookaheads_in, standings_in}
+use Rattle.bench.specs.Queue.{Others, Queued}
+use Rattle.bench.specs.Prices.{LeastIn, SortedIn, keys_in, lookaheads_in, standings_in}
 
 -- the number of records, and so of places that the bench has room for
 abbrev pub room : {P : Type 0} → Bench P → ℕ
-room b = length b.records.now
+room b = length b.queue.records.now
+
+-- the same lent memory, laid for the same planner
+abbrev pub SameLender : {P : Type 0} → Bench P → Bench P → Type 0
+SameLender b d = (d.queue.records.ghost_name ≡ b.queue.records.ghost_name) × (d.number ≡ b.number) × (room d ≡ room b)
 
 -- standing (published: g), of each place; v gives the price that a value stands for
 abbrev pub standings : {P : Type 0} → (P → Price) → Bench P → List Price
-standings v b = standings_in v b.records.now
+standings v b = standings_in v b.queue.records.now
 
 -- lookahead (published: rhs), of each place
 abbrev pub lookaheads : {P : Type 0} → (P → Price) → Bench P → List Price
-lookaheads v b = lookaheads_in v b.records.now
+lookaheads v b = lookaheads_in v b.queue.records.now
 
 -- the key that is kept of each place, queued or not
 abbrev pub keys : {P : Type 0} → (P → Price) → Bench P → List Key
-keys v b = keys_in v b.records.now
+keys v b = keys_in v b.queue.records.now
 
 -- the records from place n on, whole: standing, lookahead, key, slot and index
 abbrev pub past : {P : Type 0} → ℕ → Bench P → List (Record P (PriceKey P))
-past n b = drop n b.records.now
+past n b = drop n b.queue.records.now
 
 -- place p is in the queue
 abbrev pub Waits : {P : Type 0} → Bench P → ℕ → Type 0
-Waits b p = Queued b.records.now b.used p
+Waits b p = Queued b.queue.records.now b.queue.used p
 
 -- only places below n are queued
 abbrev pub Below : {P : Type 0} → ℕ → Bench P → Type 0
@@ -47,12 +51,12 @@ SameQueue b d = (q : ℕ) → (Waits b q → Waits d q) × (Waits d q → Waits 
 
 -- the same places are queued, but perhaps for p
 abbrev pub SameBut : {P : Type 0} → Bench P → Bench P → ℕ → Type 0
-SameBut b d p = Others b.records.now b.used d.records.now d.used p
+SameBut b d p = Others b.queue.records.now b.queue.used d.queue.records.now d.queue.used p
 
 -- the queue is in heap order: each call keeps it, and in it the top is the least
 abbrev pub Sorted : {P : Type 0} → (P → Price) → Bench P → Type 0
-Sorted v b = SortedIn v b.records.now b.used
+Sorted v b = SortedIn v b.queue.records.now b.queue.used
 
 -- no queued place comes before place p
 abbrev pub Least : {P : Type 0} → (P → Price) → Bench P → ℕ → Type 0
-Least v b p = LeastIn v b.records.now b.used p
+Least v b p = LeastIn v b.queue.records.now b.queue.used p

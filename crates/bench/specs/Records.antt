@@ -41,5 +41,5 @@ SamePast rs ss m = drop m ss ≡ drop m rs
 -- the places in slots a and b are exchanged, with their indexes, and all else is as it was
 pub record Exchanged {P K : Type 0} (rs ss : List (Record P K)) (a b : ℕ) : Type 0 where
   pub slots_are : slots ss ≡ slice_set (slice_set (slots rs) a (in_slot rs b)) b (in_slot rs a)
-  pub indexes_are : indexes ss ≡ slice_set (slice_set (indexes rs) (in_slot rs a) b) (in_slot rs b) a
+  pub indexes_are : indexes ss ≡ slice_set (slice_set (indexes rs) (in_slot rs b) a) (in_slot rs a) b
   pub kept : Kept rs ss

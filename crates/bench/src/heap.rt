@@ -1,13 +1,14 @@
 // The queue as a binary heap in the slots of the records, for any order of keys.
 // Slot k has its children in slots 2k + 1 and 2k + 2. Places do not move: slots and indexes do.
-ghost use Rattle.std.specs.Prelude.{◌≡◌, ℕ, ◌+◌, ◌*◌, ◌<◌, ◌≤◌, length};
+ghost use Rattle.std.specs.Prelude.{◌≡◌, ℕ, ◌+◌, ◌*◌, ◌<◌, ◌≤◌, length, true, false, IfSome, MatchOption, slice_set};
+ghost use Rattle.bench.specs.Changes.{Enqueued, Heaped, HeapedBut, Holds, Reordered};
 ghost use Rattle.bench.specs.Heap.{Child};
-ghost use Rattle.bench.specs.Queue.{Added, Linked, Names, Permuted, Queued, QueuedBelow, Rekeyed, Removed, SamePlaces, StaysPast};
-ghost use Rattle.bench.specs.Records.{Exchanged, Kept, SamePast, in_slot, keys};
-ghost use Rattle.bench.specs.Sorted.{FirstOf, GapAt, InOrder, UnderAt, ahead};
+ghost use Rattle.bench.specs.Order.{before_by};
+ghost use Rattle.bench.specs.Queue.{Others, StaysPast};
+ghost use Rattle.bench.specs.Records.{Exchanged, Kept, in_slot, indexes as index_column, keys, slots as slot_column};
+ghost use Rattle.bench.specs.Sorted.{FirstOf, UnderAt, ahead};
 
-use crate::fields::{index_of, key_of, put_index, put_key, put_slot, slot_of};
-use crate::order::HeapKey;
+use crate::queue::Queue;
 use crate::record::Record;
 
 // The parent of a slot.
@@ -18,155 +19,198 @@ fn parent(slot: usize) -> usize
     (slot - 1) / 2
 }
 
+// A slot and the index of a place name each other.
+#[tactic(auto, using(crate::proofs::Columns::column_writes))]
+fn link<P, K>(records: &mut [Record<P, K>], slot: usize, place: u16)
+    requires slot { (slot < length records.old) × (slot < 4096) }
+    requires place { place < length records.old }
+    ensures slots { slot_column records.new ≡ slice_set (slot_column records.old) slot place }
+    ensures indexes { index_column records.new ≡ slice_set (index_column records.old) place slot }
+    ensures kept { Kept records.old records.new }
+{
+    records[slot].slot = place;
+    records[usize::from(place)].index = slot as u16;
+}
+
 // Exchanges the places in two slots, and their indexes with them.
-fn swap<P, K>(records: &mut [Record<P, K>], a: usize, b: usize)
-    requires first { Names records.old a }
-    requires second { Names records.old b }
+fn exchange<P, K>(records: &mut [Record<P, K>], a: usize, b: usize)
+    requires first { (a < length records.old) × (a < 4096) × (in_slot records.old a < length records.old) }
+    requires second { (b < length records.old) × (b < 4096) × (in_slot records.old b < length records.old) }
     ensures { Exchanged records.old records.new a b }
 {
-    let p = slot_of(records, a);
-    let q = slot_of(records, b);
-    put_slot(records, a, q);
-    put_slot(records, b, p);
-    put_index(records, p as usize, b as u16);
-    put_index(records, q as usize, a as u16);
+    let p = records[a].slot;
+    let q = records[b].slot;
+    link(records, a, q);
+    link(records, b, p);
 }
 
-// Does the place in slot a come before the place in slot b?
-fn comes_before<P, K: HeapKey>(records: &[Record<P, K>], a: usize, b: usize) -> bool
-    requires first { Names records.now a }
-    requires second { Names records.now b }
-    ensures { result ≡ ahead K.HeapKey.before (keys records.now) (in_slot records.now a) (in_slot records.now b) }
+// Does the place under a key come before another place under another key?
+fn is_ahead<K: Copy + Ord>(key: K, place: u16, other: K, other_place: u16) -> bool
+    ensures { result ≡ before_by K.Ord.cmp key place other other_place }
 {
-    let p = slot_of(records, a);
-    let q = slot_of(records, b);
-    let key = key_of(records, p as usize);
-    key.comes_before(p, key_of(records, q as usize), q)
+    (key, place) < (other, other_place)
 }
 
-// Moves the place in slot `from` up until it does not come before its parent, and answers where it stands then.
-fn sift_up<P, K: HeapKey>(records: &mut [Record<P, K>], from: usize) -> usize
-    requires { Linked records.old (from + 1) }
-    ensures slot { result ≤ from }
-    ensures permuted { (n : ℕ) → Linked records.old n → from < n → Permuted records.old records.new n }
-    ensures under { UnderAt K.HeapKey.before records.new result }
-    ensures gap { (n : ℕ) → from < n → GapAt K.HeapKey.before records.old from n → GapAt K.HeapKey.before records.new result n }
-    ensures past { (n : ℕ) → Linked records.old n → from < n → StaysPast records.old records.new n }
-{
-    let mut at = from;
-    while at > 0 {
-        let up = parent(at);
-        if !comes_before(records, at, up) {
-            return at;
+impl<'a, P, K> Queue<'a, P, K> {
+    // Is a place queued? Its index says where to look.
+    pub(crate) fn holds(&self, place: u16) -> bool
+        ensures { ((result ≡ true → Holds self.now place)) × ((result ≡ false → Holds self.now place → ⊥)) }
+    {
+        let Some(record) = self.records.get(usize::from(place)) else {
+            return false;
+        };
+        let slot = usize::from(record.index);
+        slot < self.used && self.records[slot].slot == place
+    }
+
+    // The place in the first slot.
+    pub(crate) fn first(&self) -> Option<u16>
+        ensures place { MatchOption result ((q : ℕ) → Holds self.now q → ⊥) (λ p. Holds self.now p × (p < length self.now.records.now) × (p < 4096)) }
+        ensures first { MatchOption result (self.now.used ≡ 0) (λ p. (0 < self.now.used) × (p ≡ in_slot self.now.records.now 0)) }
+    {
+        self.records[..self.used].first().map(|record| record.slot)
+    }
+
+    // Exchanges the places in two used slots.
+    fn swap(&mut self, a: usize, b: usize)
+        requires first { a < self.old.used }
+        requires second { b < self.old.used }
+        ensures exchanged { Exchanged self.old.records.now self.new.records.now a b }
+        ensures reordered { Reordered self.old self.new }
+    {
+        let Queue { records, .. } = self;
+        exchange(records, a, b);
+    }
+}
+
+impl<'a, P, K: Copy + Ord> Queue<'a, P, K> {
+    // Does the place in slot a come before the place in slot b?
+    fn comes_before(&self, a: usize, b: usize) -> bool
+        requires first { a < self.now.used }
+        requires second { b < self.now.used }
+        ensures { result ≡ ahead (before_by K.Ord.cmp) (keys self.now.records.now) (in_slot self.now.records.now a) (in_slot self.now.records.now b) }
+    {
+        let p = self.records[a].slot;
+        let q = self.records[b].slot;
+        let key = self.records[usize::from(p)].key;
+        is_ahead(key, p, self.records[usize::from(q)].key, q)
+    }
+
+    // Moves the place in slot `from` up until it does not come before its parent, and answers where it stands then.
+    fn sift_up(&mut self, from: usize) -> usize
+        requires { from < self.old.used }
+        ensures slot { result ≤ from }
+        ensures reordered { Reordered self.old self.new }
+        ensures under { UnderAt (before_by K.Ord.cmp) self.new.records.now result }
+        ensures gap { HeapedBut K.Ord.cmp self.old from → HeapedBut K.Ord.cmp self.new result }
+    {
+        let mut at = from;
+        while at > 0 {
+            let up = parent(at);
+            if !self.comes_before(at, up) {
+                return at;
+            }
+            self.swap(up, at);
+            at = up;
         }
-        swap(records, up, at);
-        at = up;
+        at
     }
-    at
-}
 
-// The child of slot `at` whose place comes first.
-fn first_child<P, K: HeapKey>(records: &[Record<P, K>], used: usize, at: usize) -> usize
-    requires linked { Linked records.now used }
-    requires child { at * 2 + 1 < used }
-    ensures child { (result < used) × (Child «at» result) }
-    ensures first { FirstOf K.HeapKey.before records.now result «at» used }
-{
-    let left = at * 2 + 1;
-    let right = at * 2 + 2;
-    if right < used && comes_before(records, right, left) {
-        right
-    } else {
-        left
-    }
-}
-
-// Moves the place in slot `from` down until none of its children comes before it.
-fn sift_down<P, K: HeapKey>(records: &mut [Record<P, K>], used: usize, from: usize)
-    requires linked { Linked records.old used }
-    requires slot { from < used }
-    ensures permuted { Permuted records.old records.new used }
-    ensures order { GapAt K.HeapKey.before records.old from used → UnderAt K.HeapKey.before records.old from → InOrder K.HeapKey.before records.new used }
-    ensures past { StaysPast records.old records.new used }
-{
-    let mut at = from;
-    while at * 2 + 1 < used {
-        let child = first_child(records, used, at);
-        if !comes_before(records, child, at) {
-            return;
+    // The child of slot `at` whose place comes first, or none at a leaf.
+    fn first_child(&self, at: usize) -> Option<usize>
+        requires { «at» < self.now.used }
+        ensures child { MatchOption result (self.now.used ≤ at * 2 + 1) (λ k. (k < self.now.used) × Child «at» k) }
+        ensures first { IfSome result (λ k. FirstOf (before_by K.Ord.cmp) self.now.records.now k «at» self.now.used) }
+    {
+        let left = at * 2 + 1;
+        let right = left + 1;
+        if left >= self.used {
+            return None;
         }
-        swap(records, at, child);
-        at = child;
+        if right < self.used && self.comes_before(right, left) {
+            return Some(right);
+        }
+        Some(left)
     }
-}
 
-// Puts the heap in order again where only the place in slot `at` may stand wrong.
-fn restore<P, K: HeapKey>(records: &mut [Record<P, K>], used: usize, at: usize)
-    requires linked { Linked records.old used }
-    requires slot { at < used }
-    ensures permuted { Permuted records.old records.new used }
-    ensures order { GapAt K.HeapKey.before records.old «at» used → InOrder K.HeapKey.before records.new used }
-    ensures past { StaysPast records.old records.new used }
-{
-    let moved = sift_up(records, at);
-    sift_down(records, used, moved);
-}
-
-// Queues a place that is not queued.
-pub(crate) fn insert<P, K: HeapKey>(records: &mut [Record<P, K>], used: usize, place: u16, key: K)
-    requires linked { Linked records.old used }
-    requires inside { (place < length records.old) × (place < 4096) }
-    requires new { Queued records.old used place → ⊥ }
-    ensures added { Added records.old records.new used place }
-    ensures rekeyed { Rekeyed records.old records.new place key }
-    ensures order { InOrder K.HeapKey.before records.old used → InOrder K.HeapKey.before records.new (used + 1) }
-    ensures past { (m : ℕ) → place < m → QueuedBelow records.old used m → SamePast records.old records.new m }
-{
-    put_key(records, place as usize, key);
-    put_slot(records, used, place);
-    put_index(records, place as usize, used as u16);
-    restore(records, used + 1, used);
-}
-
-// Takes the place in slot k out of the queue, in which `left` places are left.
-fn remove_at<P, K: HeapKey>(records: &mut [Record<P, K>], left: usize, k: usize)
-    requires linked { Linked records.old (left + 1) }
-    requires slot { k ≤ left }
-    ensures removed { Removed records.old records.new left (in_slot records.old k) }
-    ensures kept { Kept records.old records.new }
-    ensures order { InOrder K.HeapKey.before records.old (left + 1) → InOrder K.HeapKey.before records.new left }
-    ensures past { StaysPast records.old records.new (left + 1) }
-{
-    swap(records, k, left);
-    if k < left {
-        restore(records, left, k);
+    // Moves the place in slot `from` down until none of its children comes before it.
+    fn sift_down(&mut self, from: usize)
+        requires { from < self.old.used }
+        ensures reordered { Reordered self.old self.new }
+        ensures order { HeapedBut K.Ord.cmp self.old from → UnderAt (before_by K.Ord.cmp) self.old.records.now from → Heaped K.Ord.cmp self.new }
+    {
+        let mut at = from;
+        while let Some(child) = self.first_child(at) {
+            if !self.comes_before(child, at) {
+                return;
+            }
+            self.swap(at, child);
+            at = child;
+        }
     }
-}
 
-// Takes a queued place out of the queue, in which `left` places are left.
-pub(crate) fn remove<P, K: HeapKey>(records: &mut [Record<P, K>], left: usize, place: u16)
-    requires linked { Linked records.old (left + 1) }
-    requires queued { Queued records.old (left + 1) place }
-    ensures removed { Removed records.old records.new left place }
-    ensures kept { Kept records.old records.new }
-    ensures order { InOrder K.HeapKey.before records.old (left + 1) → InOrder K.HeapKey.before records.new left }
-    ensures past { StaysPast records.old records.new (left + 1) }
-{
-    let k = index_of(records, place as usize) as usize;
-    remove_at(records, left, k);
-}
+    // Puts the heap in order again where only the place in slot `at` may stand wrong.
+    fn restore(&mut self, at: usize)
+        requires { «at» < self.old.used }
+        ensures reordered { Reordered self.old self.new }
+        ensures order { HeapedBut K.Ord.cmp self.old «at» → Heaped K.Ord.cmp self.new }
+    {
+        let moved = self.sift_up(at);
+        self.sift_down(moved);
+    }
 
-// Gives a queued place another key, and moves it to where that belongs.
-pub(crate) fn rekey<P, K: HeapKey>(records: &mut [Record<P, K>], used: usize, place: u16, key: K)
-    requires linked { Linked records.old used }
-    requires queued { Queued records.old used place }
-    ensures linked { Linked records.new used }
-    ensures same { SamePlaces records.old records.new used }
-    ensures rekeyed { Rekeyed records.old records.new place key }
-    ensures order { InOrder K.HeapKey.before records.old used → InOrder K.HeapKey.before records.new used }
-    ensures past { StaysPast records.old records.new used }
-{
-    let k = index_of(records, place as usize) as usize;
-    put_key(records, place as usize, key);
-    restore(records, used, k);
+    // Queues a place that is not queued.
+    fn insert(&mut self, place: u16, key: K)
+        requires inside { (place < length self.old.records.now) × (place < 4096) }
+        requires new { Holds self.old place → ⊥ }
+        ensures { Enqueued K.Ord.cmp self.old self.new place key }
+    {
+        let Queue { records, used, .. } = self;
+        let slot = *used;
+        records[usize::from(place)].key = key;
+        link(records, slot, place);
+        *used += 1;
+        self.restore(slot);
+    }
+
+    // Gives a queued place another key, and moves it to where that belongs.
+    fn rekey(&mut self, place: u16, key: K)
+        requires { Holds self.old place }
+        ensures { Enqueued K.Ord.cmp self.old self.new place key }
+    {
+        let slot = usize::from(self.records[usize::from(place)].index);
+        self.records[usize::from(place)].key = key;
+        self.restore(slot);
+    }
+
+    // Queues a place under a key, or gives it that key where it is queued already.
+    pub(crate) fn enqueue(&mut self, place: u16, key: K)
+        requires { (place < length self.old.records.now) × (place < 4096) }
+        ensures { Enqueued K.Ord.cmp self.old self.new place key }
+    {
+        if self.holds(place) {
+            self.rekey(place, key);
+        } else {
+            self.insert(place, key);
+        }
+    }
+
+    // Takes a queued place out of the queue.
+    pub(crate) fn dequeue(&mut self, place: u16)
+        requires { Holds self.old place }
+        ensures lender { self.new.records.ghost_name ≡ self.old.records.ghost_name }
+        ensures gone { Holds self.new place → ⊥ }
+        ensures others { Others self.old.records.now self.old.used self.new.records.now self.new.used place }
+        ensures kept { Kept self.old.records.now self.new.records.now }
+        ensures order { Heaped K.Ord.cmp self.old → Heaped K.Ord.cmp self.new }
+        ensures past { StaysPast self.old.records.now self.new.records.now self.old.used }
+    {
+        let slot = usize::from(self.records[usize::from(place)].index);
+        let last = self.used - 1;
+        self.swap(slot, last);
+        self.used = last;
+        if slot < last {
+            self.restore(slot);
+        }
+    }
 }

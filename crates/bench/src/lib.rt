@@ -3,10 +3,8 @@
 
 mod bench;
 mod changes;
-mod fields;
 mod heap;
 mod key;
-mod order;
 mod questions;
 mod queue;
 mod record;
