@@ -5,6 +5,7 @@ use Rattle.std.specs.Option.{option_map}
 use Rattle.std.specs.List.{slice_get}
 use Rattle.std.specs.Slice.{IsGetResult}
 use Rattle.std.proofs.lemmas.List.{map-set}
+use lib.Seq.{map-set_same}
 use Rattle.std.proofs.lemmas.Option.{slice_get-get_or, slice_get_past, slice_get_read}
 
 pub nth_map : {X Y : Type 0} (f : X → Y) (xs : List X) (i : ℕ) → slice_get (map f xs) i ≡ option_map f (slice_get xs i)
@@ -35,3 +36,6 @@ module _ {X Y Z : Type 0} (f : X → Y) (g : Y → Z) (xs ys : List X) where
 
   pub column_set : (i : ℕ) (y : Y) → map f ys ≡ set (map f xs) i y → map (λ x. g (f x)) ys ≡ set (map (λ x. g (f x)) xs) i (g y)
   column_set i y e = sym (map-map g f ys) ∙ ap (map g) e ∙ map-set g (map f xs) i y ∙ ap (λ zs. set zs i (g y)) (map-map g f xs)
+
+-- what one write leaves of a column
+pub ruleset column_writes = (map-set, map-set_same)

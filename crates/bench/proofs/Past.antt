@@ -36,7 +36,7 @@ module _ {P K : Type 0} (rs ss : List (Record P K)) (m : ℕ) where
   pub swap_past : (a b : ℕ) → Exchanged rs ss a b → a < m → b < m → in_slot rs a < m → in_slot rs b < m → SamePast rs ss m
   swap_past a b x la lb lp lq = columns_past
       (twice (slots rs) (slots ss) a b _ _ x.slots_are la lb)
-      (twice (indexes rs) (indexes ss) (in_slot rs a) (in_slot rs b) _ _ x.indexes_are lp lq)
+      (twice (indexes rs) (indexes ss) (in_slot rs b) (in_slot rs a) _ _ x.indexes_are lq lp)
       (ap (drop m) x.kept.0) x.kept.1 x.kept.2
 
   -- another key for place p below m

@@ -3,7 +3,8 @@ use Rattle.std.proofs.Common.{◌≡◌, ℕ, zero, suc, ◌+◌, ◌-◌, ◌<�
 use Rattle.std.proofs.lemmas.Bool.{cases_eq, cases_lt, eq-eqb, ne_eqb, cond-true, cond-false}
 use Rattle.bench.specs.declared.record.Record.{Record}
 use Rattle.bench.specs.Records.{in_slot, index_of}
-use Rattle.bench.specs.Queue.{Linked, Queued}
+use Rattle.bench.specs.Queue.{Queued}
+use Rattle.bench.proofs.Links.{Linked}
 
 abbrev Apart : (ℕ → ℕ) → ℕ → Type 0
 Apart F n = (k l : ℕ) → k < n → l < n → F k ≡ F l → k ≡ l

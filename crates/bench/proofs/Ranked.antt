@@ -1,12 +1,53 @@
 -- Places by their keys are an order with ties.
 use Rattle.std.proofs.Common.{◌≡◌, ℕ, Bool, true, false, List, map, set, Some, None, Option, sym, refl, ap, ◌∙◌}
 use Rattle.std.proofs.lemmas.Bool.{both_ways}
+use Rattle.std.proofs.lemmas.Cmp.{nat_cmp_total, on_total, then_total, upto}
+use Rattle.std.specs.Cmp.{IsTotalOrder}
+use Rattle.std.specs.declared.cmp.Ordering.{Ordering}
+use Rattle.std.specs.declared.cmp.Ordering.TheVariants.{Less, Equal, Greater}
+use Rattle.std.specs.Ordering.{is_gt, is_lt, nat_cmp, ordering_reverse, ordering_then}
 use Rattle.std.specs.Option.{option_map}
 use Rattle.std.specs.List.{slice_get}
-use Rattle.bench.specs.Order.{WeakOrder}
+use Rattle.bench.specs.Order.{before_by}
 use Rattle.bench.specs.Sorted.{ahead, sooner}
 use Rattle.bench.proofs.Columns.{nth_map, nth_set_other}
 use Rattle.bench.proofs.Heaps.{Ranks}
+
+-- one comes before the other or neither does, and not to come after is transitive
+pub record WeakOrder {K : Type 0} (before : K → ℕ → K → ℕ → Bool) : Type 0 where
+  pub one_way : (a b : K) (p q : ℕ) → before a p b q ≡ true → before b q a p ≡ false
+  pub chain : (a b c : K) (p q r : ℕ) → before b q a p ≡ false → before c r b q ≡ false → before c r a p ≡ false
+
+module _ {X : Type 0} (R : X → X → Ordering) (o : IsTotalOrder R) where
+  turned : (r : Ordering) → is_gt (ordering_reverse r) ≡ is_lt r
+  turned Less = refl
+  turned Equal = refl
+  turned Greater = refl
+
+  one_side : (r : Ordering) → is_lt r ≡ true → is_gt r ≡ false
+  one_side Less h = refl
+  one_side Equal h = refl
+  one_side Greater h = absurd (both_ways false refl h)
+
+  after : (x y : X) → is_gt (R x y) ≡ is_lt (R y x)
+  after x y = ap is_gt (o.antisymm x y) ∙ turned (R y x)
+
+  pub lt_one_way : (x y : X) → is_lt (R x y) ≡ true → is_lt (R y x) ≡ false
+  lt_one_way x y h = sym (after x y) ∙ one_side (R x y) h
+
+  pub lt_chain : (x y z : X) → is_lt (R y x) ≡ false → is_lt (R z y) ≡ false → is_lt (R z x) ≡ false
+  lt_chain x y z h k = sym (after x z) ∙ upto o x y z (after x y ∙ h) (after y z ∙ k)
+
+-- keys that are totally ordered, and then the numbers of places
+module _ {K : Type 0} (cmp : K → K → Ordering) (o : IsTotalOrder cmp) where
+  both : IsTotalOrder {K = K × ℕ} (λ x y. ordering_then (cmp x.0 y.0) (nat_cmp x.1 y.1))
+  both = then_total (on_total (λ x. x.0) o) (on_total (λ x. x.1) nat_cmp_total)
+
+  pub weak : WeakOrder (before_by cmp)
+  weak = record {
+    one_way = λ a b p q. lt_one_way _ both (a, p) (b, q);
+    chain = λ a b c p q r. lt_chain _ both (a, p) (b, q) (c, r);
+  }
 
 module _ {K : Type 0} (before : K → ℕ → K → ℕ → Bool) (w : WeakOrder before) where
   one_way : (a b : Option K) (p q : ℕ) → sooner before a p b q ≡ true → sooner before b q a p ≡ false

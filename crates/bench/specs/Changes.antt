@@ -1,11 +1,11 @@
 -- What a method does to a queue: q before, and r after. The lent memory is the same in each.
-use Rattle.std.specs.Prelude.{◌≡◌, ℕ, ◌<◌, Bool}
+use Rattle.std.specs.Prelude.{◌≡◌, ℕ, ◌<◌}
 use Rattle.std.specs.declared.cmp.Ordering.{Ordering}
 use Rattle.bench.specs.declared.queue.Queue.{Queue}
 use Rattle.bench.specs.Order.{before_by}
 use Rattle.bench.specs.Queue.{Others, Queued, QueuedBelow, Rekeyed, SamePlaces, StaysPast}
 use Rattle.bench.specs.Records.{Kept, SamePast}
-use Rattle.bench.specs.Sorted.{FirstOf, GapAt, InOrder, UnderAt}
+use Rattle.bench.specs.Sorted.{GapAt, InOrder}
 
 -- place p is queued
 abbrev pub Holds : {P K : Type 0} → Queue P K → ℕ → Type 0
@@ -28,10 +28,17 @@ pub record Reordered {P K : Type 0} (q r : Queue P K) : Type 0 where
   pub past : StaysPast q.records.now r.records.now q.used
 
 -- place p is queued under this key, and all else is as it was
-pub record Enqueued {P K : Type 0} (cmp : K → K → Ordering) (q r : Queue P K) (p : ℕ) (key : K) : Type 0 where
+pub record Enqueued {P K : Type 0} (q r : Queue P K) (p : ℕ) (key : K) : Type 0 where
   pub lender : r.records.ghost_name ≡ q.records.ghost_name
   pub holds : Holds r p
   pub others : Others q.records.now q.used r.records.now r.used p
   pub rekeyed : Rekeyed q.records.now r.records.now p key
-  pub order : Heaped cmp q → Heaped cmp r
   pub past : (m : ℕ) → p < m → QueuedBelow q.records.now q.used m → SamePast q.records.now r.records.now m
+
+-- place p is queued no more, and all else is as it was
+pub record Dequeued {P K : Type 0} (q r : Queue P K) (p : ℕ) : Type 0 where
+  pub lender : r.records.ghost_name ≡ q.records.ghost_name
+  pub gone : Holds r p → ⊥
+  pub others : Others q.records.now q.used r.records.now r.used p
+  pub kept : Kept q.records.now r.records.now
+  pub past : StaysPast q.records.now r.records.now q.used

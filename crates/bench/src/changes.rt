@@ -27,6 +27,7 @@ impl<'a, P: PriceKind> Bench<'a, P> {
     }
 
     // Sets the standing of a place. Outside the memory the answer is false, and nothing changes.
+    #[tactic(auto, using(crate::proofs::Columns::column_writes))]
     pub fn put_standing(&mut self, place: u16, standing: P) -> bool
         ensures answer { result ≡ nat_lt place (room self.old) }
         ensures refused { result ≡ false → self.new ≡ self.old }
@@ -37,14 +38,17 @@ impl<'a, P: PriceKind> Bench<'a, P> {
         ensures order { Sorted P.PriceKind.value self.old → Sorted P.PriceKind.value self.new }
         ensures past { (n : ℕ) → place < n → past n self.new ≡ past n self.old }
     {
-        let Some(record) = self.queue.records.get_mut(usize::from(place)) else {
+        let at = usize::from(place);
+        if at >= self.queue.records.len() {
             return false;
-        };
-        record.standing = standing;
+        }
+        let Queue { records, .. } = &mut self.queue;
+        records[at].standing = standing;
         true
     }
 
     // Sets the lookahead of a place. Outside the memory the answer is false, and nothing changes.
+    #[tactic(auto, using(crate::proofs::Columns::column_writes))]
     pub fn put_lookahead(&mut self, place: u16, lookahead: P) -> bool
         ensures answer { result ≡ nat_lt place (room self.old) }
         ensures refused { result ≡ false → self.new ≡ self.old }
@@ -55,10 +59,12 @@ impl<'a, P: PriceKind> Bench<'a, P> {
         ensures order { Sorted P.PriceKind.value self.old → Sorted P.PriceKind.value self.new }
         ensures past { (n : ℕ) → place < n → past n self.new ≡ past n self.old }
     {
-        let Some(record) = self.queue.records.get_mut(usize::from(place)) else {
+        let at = usize::from(place);
+        if at >= self.queue.records.len() {
             return false;
-        };
-        record.lookahead = lookahead;
+        }
+        let Queue { records, .. } = &mut self.queue;
+        records[at].lookahead = lookahead;
         true
     }
 }

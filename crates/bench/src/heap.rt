@@ -1,11 +1,12 @@
 // The queue as a binary heap in the slots of the records, for any order of keys.
 // Slot k has its children in slots 2k + 1 and 2k + 2. Places do not move: slots and indexes do.
-ghost use Rattle.std.specs.Prelude.{◌≡◌, ℕ, ◌+◌, ◌*◌, ◌<◌, ◌≤◌, length, true, false, IfSome, MatchOption, slice_set};
-ghost use Rattle.bench.specs.Changes.{Enqueued, Heaped, HeapedBut, Holds, Reordered};
+ghost use Rattle.std.specs.Prelude.{◌≡◌, ℕ, ◌+◌, ◌*◌, ◌<◌, ◌≤◌, length, true, false, Some, IfSome, MatchOption, slice_set};
+ghost use Rattle.std.specs.List.{slice_get};
+ghost use Rattle.bench.specs.Changes.{Dequeued, Enqueued, Heaped, HeapedBut, Holds, Reordered};
 ghost use Rattle.bench.specs.Heap.{Child};
 ghost use Rattle.bench.specs.Order.{before_by};
-ghost use Rattle.bench.specs.Queue.{Others, StaysPast};
-ghost use Rattle.bench.specs.Records.{Exchanged, Kept, in_slot, indexes as index_column, keys, slots as slot_column};
+ghost use Rattle.bench.specs.Queue.{Rekeyed};
+ghost use Rattle.bench.specs.Records.{Exchanged, Kept, in_slot, index_of, indexes as index_column, keys, slots as slot_column};
 ghost use Rattle.bench.specs.Sorted.{FirstOf, UnderAt, ahead};
 
 use crate::queue::Queue;
@@ -32,6 +33,17 @@ fn link<P, K>(records: &mut [Record<P, K>], slot: usize, place: u16)
     records[usize::from(place)].index = slot as u16;
 }
 
+// A place has another key.
+#[tactic(auto, using(crate::proofs::Columns::column_writes))]
+fn put_key<P, K: Copy>(records: &mut [Record<P, K>], place: u16, key: K)
+    requires { place < length records.old }
+    ensures slots { slot_column records.new ≡ slot_column records.old }
+    ensures indexes { index_column records.new ≡ index_column records.old }
+    ensures rekeyed { Rekeyed records.old records.new place key }
+{
+    records[usize::from(place)].key = key;
+}
+
 // Exchanges the places in two slots, and their indexes with them.
 fn exchange<P, K>(records: &mut [Record<P, K>], a: usize, b: usize)
     requires first { (a < length records.old) × (a < 4096) × (in_slot records.old a < length records.old) }
@@ -42,13 +54,6 @@ fn exchange<P, K>(records: &mut [Record<P, K>], a: usize, b: usize)
     let q = records[b].slot;
     link(records, a, q);
     link(records, b, p);
-}
-
-// Does the place under a key come before another place under another key?
-fn is_ahead<K: Copy + Ord>(key: K, place: u16, other: K, other_place: u16) -> bool
-    ensures { result ≡ before_by K.Ord.cmp key place other other_place }
-{
-    (key, place) < (other, other_place)
 }
 
 impl<'a, P, K> Queue<'a, P, K> {
@@ -63,10 +68,18 @@ impl<'a, P, K> Queue<'a, P, K> {
         slot < self.used && self.records[slot].slot == place
     }
 
+    // The slot in which a queued place stands.
+    fn slot_of(&self, place: u16) -> usize
+        requires { Holds self.now place }
+        ensures { result ≡ index_of self.now.records.now place }
+    {
+        usize::from(self.records[usize::from(place)].index)
+    }
+
     // The place in the first slot.
     pub(crate) fn first(&self) -> Option<u16>
         ensures place { MatchOption result ((q : ℕ) → Holds self.now q → ⊥) (λ p. Holds self.now p × (p < length self.now.records.now) × (p < 4096)) }
-        ensures first { MatchOption result (self.now.used ≡ 0) (λ p. (0 < self.now.used) × (p ≡ in_slot self.now.records.now 0)) }
+        ensures slot { IfSome result (λ p. (0 < self.now.used) × (p ≡ in_slot self.now.records.now 0)) }
     {
         self.records[..self.used].first().map(|record| record.slot)
     }
@@ -84,16 +97,25 @@ impl<'a, P, K> Queue<'a, P, K> {
 }
 
 impl<'a, P, K: Copy + Ord> Queue<'a, P, K> {
-    // Does the place in slot a come before the place in slot b?
+    // The key of the place in a used slot, and the place.
+    #[tactic(auto, using(crate::proofs::Links::slot_within, crate::proofs::Columns::nth_column))]
+    fn entry(&self, slot: usize) -> (K, u16)
+        requires { slot < self.now.used }
+        ensures place { result.1 ≡ in_slot self.now.records.now slot }
+        ensures key { slice_get (keys self.now.records.now) (in_slot self.now.records.now slot) ≡ Some result.0 }
+    {
+        let place = self.records[slot].slot;
+        (self.records[usize::from(place)].key, place)
+    }
+
+    // Does the place in slot a come before the place in slot b? The smaller key comes first, of equal keys the lower number.
+    #[tactic(auto, unfolding(crate::specs::Sorted::ahead))]
     fn comes_before(&self, a: usize, b: usize) -> bool
         requires first { a < self.now.used }
         requires second { b < self.now.used }
         ensures { result ≡ ahead (before_by K.Ord.cmp) (keys self.now.records.now) (in_slot self.now.records.now a) (in_slot self.now.records.now b) }
     {
-        let p = self.records[a].slot;
-        let q = self.records[b].slot;
-        let key = self.records[usize::from(p)].key;
-        is_ahead(key, p, self.records[usize::from(q)].key, q)
+        self.entry(a) < self.entry(b)
     }
 
     // Moves the place in slot `from` up until it does not come before its parent, and answers where it stands then.
@@ -123,7 +145,7 @@ impl<'a, P, K: Copy + Ord> Queue<'a, P, K> {
         ensures first { IfSome result (λ k. FirstOf (before_by K.Ord.cmp) self.now.records.now k «at» self.now.used) }
     {
         let left = at * 2 + 1;
-        let right = left + 1;
+        let right = at * 2 + 2;
         if left >= self.used {
             return None;
         }
@@ -163,11 +185,12 @@ impl<'a, P, K: Copy + Ord> Queue<'a, P, K> {
     fn insert(&mut self, place: u16, key: K)
         requires inside { (place < length self.old.records.now) × (place < 4096) }
         requires new { Holds self.old place → ⊥ }
-        ensures { Enqueued K.Ord.cmp self.old self.new place key }
+        ensures enqueued { Enqueued self.old self.new place key }
+        ensures order { Heaped K.Ord.cmp self.old → Heaped K.Ord.cmp self.new }
     {
         let Queue { records, used, .. } = self;
         let slot = *used;
-        records[usize::from(place)].key = key;
+        put_key(records, place, key);
         link(records, slot, place);
         *used += 1;
         self.restore(slot);
@@ -176,17 +199,20 @@ impl<'a, P, K: Copy + Ord> Queue<'a, P, K> {
     // Gives a queued place another key, and moves it to where that belongs.
     fn rekey(&mut self, place: u16, key: K)
         requires { Holds self.old place }
-        ensures { Enqueued K.Ord.cmp self.old self.new place key }
+        ensures enqueued { Enqueued self.old self.new place key }
+        ensures order { Heaped K.Ord.cmp self.old → Heaped K.Ord.cmp self.new }
     {
-        let slot = usize::from(self.records[usize::from(place)].index);
-        self.records[usize::from(place)].key = key;
+        let slot = self.slot_of(place);
+        let Queue { records, .. } = self;
+        put_key(records, place, key);
         self.restore(slot);
     }
 
     // Queues a place under a key, or gives it that key where it is queued already.
     pub(crate) fn enqueue(&mut self, place: u16, key: K)
         requires { (place < length self.old.records.now) × (place < 4096) }
-        ensures { Enqueued K.Ord.cmp self.old self.new place key }
+        ensures enqueued { Enqueued self.old self.new place key }
+        ensures order { Heaped K.Ord.cmp self.old → Heaped K.Ord.cmp self.new }
     {
         if self.holds(place) {
             self.rekey(place, key);
@@ -198,14 +224,10 @@ impl<'a, P, K: Copy + Ord> Queue<'a, P, K> {
     // Takes a queued place out of the queue.
     pub(crate) fn dequeue(&mut self, place: u16)
         requires { Holds self.old place }
-        ensures lender { self.new.records.ghost_name ≡ self.old.records.ghost_name }
-        ensures gone { Holds self.new place → ⊥ }
-        ensures others { Others self.old.records.now self.old.used self.new.records.now self.new.used place }
-        ensures kept { Kept self.old.records.now self.new.records.now }
+        ensures dequeued { Dequeued self.old self.new place }
         ensures order { Heaped K.Ord.cmp self.old → Heaped K.Ord.cmp self.new }
-        ensures past { StaysPast self.old.records.now self.new.records.now self.old.used }
     {
-        let slot = usize::from(self.records[usize::from(place)].index);
+        let slot = self.slot_of(place);
         let last = self.used - 1;
         self.swap(slot, last);
         self.used = last;

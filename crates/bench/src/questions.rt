@@ -7,6 +7,7 @@ ghost use Rattle.bench.specs.Keys.{key_of};
 
 use crate::bench::Bench;
 use crate::key::Key;
+use crate::record::Record;
 use price::PriceKind;
 
 impl<'a, P: PriceKind> Bench<'a, P> {
@@ -24,32 +25,32 @@ impl<'a, P: PriceKind> Bench<'a, P> {
         self.queue.records.len()
     }
 
+    // The record of a place, or none outside the memory.
+    fn record(&self, place: u16) -> Option<&Record<P>>
+        ensures { option_map (λ r. r.now) result ≡ slice_get self.now.queue.records.now place }
+    {
+        self.queue.records.get(usize::from(place))
+    }
+
     // The standing of a place, or none outside the memory.
     pub fn standing(&self, place: u16) -> Option<P>
         ensures { option_map P.PriceKind.value result ≡ slice_get (standings P.PriceKind.value self.now) place }
     {
-        let record = self.queue.records.get(usize::from(place))?;
-        Some(record.standing)
+        self.record(place).map(|record| record.standing)
     }
 
     // The lookahead of a place, or none outside the memory.
     pub fn lookahead(&self, place: u16) -> Option<P>
         ensures { option_map P.PriceKind.value result ≡ slice_get (lookaheads P.PriceKind.value self.now) place }
     {
-        self.queue
-            .records
-            .get(usize::from(place))
-            .map(|record| record.lookahead)
+        self.record(place).map(|record| record.lookahead)
     }
 
     // The key of a place, queued or not, or none outside the memory.
     pub fn key(&self, place: u16) -> Option<Key<P>>
         ensures { option_map (key_of P.PriceKind.value) result ≡ slice_get (kept_keys P.PriceKind.value self.now) place }
     {
-        self.queue
-            .records
-            .get(usize::from(place))
-            .map(|record| record.key)
+        self.record(place).map(|record| record.key)
     }
 }
 
