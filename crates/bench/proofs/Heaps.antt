@@ -68,13 +68,6 @@ module _ (lt : ℕ → ℕ → Bool) where
   top o f n h (suc bound) k a b = ⊎_elim (same_slot o f 0 k)
       (λ u. o.chain _ _ _ (top o f n h bound ((k - 1) / 2) (omega arith) (omega arith)) (h ((k - 1) / 2) k (omega arith, omega arith) b)) (cases_eq k 0)
 
-  -- one more slot at the end leaves a gap there
-  pub appends : (f g : ℕ → ℕ) (n : ℕ) → ((k : ℕ) → k < n → g k ≡ f k) → Ordered lt f n → Gap lt g n (n + 1)
-  appends f g n same h = record {
-    apart = λ i k a l u v. by _ _ _ _ (same i (omega arith)) (same k (omega arith)) (h i k a (omega arith));
-    across = λ i k a b l. absurd (omega arith);
-  }
-
   -- the last slot, exchanged into slot j and left out, leaves a gap there
   pub leaves : Ranks lt → (f g : ℕ → ℕ) (j n : ℕ) → j < n → Swapped f g j n → Ordered lt f (n + 1) → Gap lt g j n
   leaves o f g j n l s h = record {
@@ -82,6 +75,3 @@ module _ (lt : ℕ → ℕ → Bool) where
     across = λ i k a b m. by _ _ _ _ (s.2 i (omega arith) (omega arith)) (s.2 k (omega arith) (omega arith))
         (o.chain _ _ _ (h i j a (omega arith)) (h j k b (omega arith)));
   }
-
-  pub agrees : (f g : ℕ → ℕ) (m n : ℕ) → n ≤ m → ((k : ℕ) → k < n → g k ≡ f k) → Ordered lt f m → Ordered lt g n
-  agrees f g m n le same h = λ i k a l. by _ _ _ _ (same i (omega arith)) (same k l) (h i k a (omega arith))

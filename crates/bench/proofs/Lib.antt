@@ -10,4 +10,4 @@ mod Moves
 mod Appends
 mod Sifts
 mod Leaves
-mod Prices
+pub mod Prices

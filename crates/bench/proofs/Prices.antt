@@ -13,6 +13,7 @@ use Rattle.rows.specs.Rows.{Price, less}
 use Rattle.rows.specs.Keys.{before, in_turn, key_less}
 use Rattle.rows.proofs.Keys.{before_chain, before_one_way}
 use Rattle.bench.specs.declared.key.Key.{Key}
+use Rattle.bench.specs.declared.queue.Queue.{Queue}
 use Rattle.bench.specs.declared.record.Record.{Record}
 use Rattle.bench.specs.Heap.{Ordered}
 use Rattle.bench.specs.Keys.{key_of}
@@ -22,7 +23,7 @@ use Rattle.bench.specs.Records.{in_slot, index_of, keys}
 use Rattle.bench.specs.Sorted.{InOrder, ahead}
 use Rattle.bench.specs.Prices.{LeastIn, SortedIn, key_at, keys_in}
 use Rattle.bench.proofs.Heaps as heaps
-use Rattle.bench.proofs.Links.{Linked, queued_within, slot_queued}
+use Rattle.bench.proofs.Links.{Linked, linked, queued_within, slot_queued}
 use Rattle.bench.proofs.Ranked.{ahead_keys, ahead_mapped, ranks}
 
 -- the place in the first slot of a queue in heap order is the least
@@ -41,9 +42,10 @@ module _ {P : Type 0} (v : P → Price) (rs : List (Record P (Key P))) (n : ℕ)
       ∙ (λ m. ahead before (keys_in v rs) (sym w.1 m) (e m))
       ∙ heaps.top (ahead before (keys_in v rs)) (ranks before (record { one_way = before_one_way; chain = before_chain }) (keys_in v rs)) (in_slot rs) n h i i (omega arith) w.0
 
-  pub top_found : (r : Option ℕ) → IfSome r (λ p. (0 < n) × (p ≡ in_slot rs 0)) → SortedIn v rs n → IfSome r (λ p. LeastIn v rs n p)
-  top_found None f h = tt
-  top_found (Some p) f h = top_least p f.1 f.0 h
+-- what is first is the least, where the queue is in heap order
+pub top_is_least : {P : Type 0} (v : P → Price) (q : Queue P (Key P)) (r : Option ℕ) → IfSome r (λ p. (0 < q.used) × (p ≡ in_slot q.records.now 0)) → SortedIn v q.records.now q.used → IfSome r (λ p. LeastIn v q.records.now q.used p)
+top_is_least v q None f h = tt
+top_is_least v q (Some p) f h = top_least v q.records.now q.used (linked q) p f.1 f.0 h
 
 -- a comparison, and what stands for it as a test
 module _ {X : Type 0} (R : X → X → Ordering) (o : IsTotalOrder R) (test : X → X → Bool) (law : (x y : X) → is_lt (R x y) ≡ test x y) where

@@ -1,4 +1,4 @@
--- What the steps of the sifts, one more slot, one slot less and another key do to heap order in the records.
+-- What the steps of the sifts, one more slot and another key do to heap order in the records.
 use Rattle.std.proofs.Common.{◌≡◌, ℕ, ◌+◌, ◌*◌, ◌<◌, ◌≤◌, Bool, true, false, List, get_or, set, sym, ap, ◌∙◌, subst, ⊎_elim, arith}
 use Rattle.std.proofs.lemmas.Bool.{cases_eq}
 use Rattle.std.proofs.lemmas.List.Edits.{Swapped}
@@ -66,35 +66,31 @@ module _ {P K : Type 0} (cmp : K → K → Ordering) (o : IsTotalOrder cmp) wher
     sinks_rest c t best gap under = heaps.closes (lt cmp (keys rs)) (in_slot rs) j n gap under
         (λ k a l. (order cmp o (keys rs)).chain _ _ _ (sym t) (best k a l))
 
-  module _ (rs ss : List (Record P K)) (n : ℕ) where
-    -- one more slot at the end
-    pub appends : ((k : ℕ) → (k ≡ n → ⊥) → in_slot ss k ≡ in_slot rs k) → keys ss ≡ keys rs → InOrder (before_by cmp) rs n → GapAt (before_by cmp) ss n (n + 1)
-    appends same ek h = subst (λ ks. Gap (lt cmp ks) (in_slot ss) n (n + 1)) (sym ek)
-        (heaps.appends (lt cmp (keys rs)) (in_slot rs) (in_slot ss) n (λ k l. same k (omega arith)) h)
+  -- place p has another key
+  module _ (rs ss : List (Record P K)) (n p : ℕ) (key : K) (ek : keys ss ≡ set (keys rs) p key) (linked : Linked rs n) where
+    turn : (i k : ℕ) → in_slot ss i ≡ in_slot rs i → in_slot ss k ≡ in_slot rs k → (in_slot rs i ≡ p → ⊥) → (in_slot rs k ≡ p → ⊥) →
+        Le (lt cmp (keys rs)) (in_slot rs i) (in_slot rs k) → Le (lt cmp (keys ss)) (in_slot ss i) (in_slot ss k)
+    turn i k ei ej u w t = ahead_other (before_by cmp) (keys rs) (keys ss) p (in_slot ss k) (in_slot ss i) key ek (λ e. w (sym ej ∙ e)) (λ e. u (sym ei ∙ e))
+        ∙ (λ m. lt cmp (keys rs) (ej m) (ei m)) ∙ t
 
-    module _ (es : slots ss ≡ slots rs) where
-      -- another key for place p
-      module _ (p : ℕ) (key : K) (ek : keys ss ≡ set (keys rs) p key) (linked : Linked rs n) where
-        same : (k : ℕ) → in_slot ss k ≡ in_slot rs k
-        same k = ap (λ xs. get_or xs k 0) es
+    -- it was not queued, and stands in one more slot at the end
+    pub appends : ((k : ℕ) → (k ≡ n → ⊥) → in_slot ss k ≡ in_slot rs k) → (Queued rs n p → ⊥) → InOrder (before_by cmp) rs n → GapAt (before_by cmp) ss n (n + 1)
+    appends same new h =
+        let else : (k : ℕ) → k < n → in_slot rs k ≡ p → ⊥ = λ k l e.
+        let i : index_of rs p ≡ k = ap (index_of rs) (sym e) ∙ linked.back k l in
+        new (omega arith, ap (in_slot rs) i ∙ e) in
+        record {
+          apart = λ i k a l u v. turn i k (same i u) (same k v) (else i (omega arith)) (else k (omega arith)) (h i k a (omega arith));
+          across = λ i k a b l. absurd (omega arith);
+        }
 
-        turn : (i k : ℕ) → (in_slot ss i ≡ p → ⊥) → (in_slot ss k ≡ p → ⊥) → Le (lt cmp (keys rs)) (in_slot rs i) (in_slot rs k) → Le (lt cmp (keys ss)) (in_slot ss i) (in_slot ss k)
-        turn i k u w t = ahead_other (before_by cmp) (keys rs) (keys ss) p (in_slot ss k) (in_slot ss i) key ek w u ∙ (λ m. lt cmp (keys rs) (same k m) (same i m)) ∙ t
-
-        -- of a place that is not queued
-        pub order_unqueued : (Queued rs n p → ⊥) → InOrder (before_by cmp) rs n → InOrder (before_by cmp) ss n
-        order_unqueued new h =
-            let else : (k : ℕ) → k < n → in_slot ss k ≡ p → ⊥ = λ k l e.
-            let i : index_of rs p ≡ k = ap (index_of rs) (sym (sym (same k) ∙ e)) ∙ linked.back k l in
-            new (omega arith, ap (in_slot rs) i ∙ sym (same k) ∙ e) in
-            λ i k a l. turn i k (else i (omega arith)) (else k l) (h i k a l)
-
-        -- of the queued place in slot j
-        pub rekeys : (j : ℕ) → j ≡ index_of rs p → Queued rs n p → InOrder (before_by cmp) rs n → GapAt (before_by cmp) ss j n
-        rekeys j is q h =
-            let else : (k : ℕ) → k < n → (k ≡ j → ⊥) → in_slot ss k ≡ p → ⊥ = λ k l u e. u (sym (linked.back k l) ∙ ap (index_of rs) (sym (same k) ∙ e) ∙ sym is) in
-            let l : j < n = omega (arith, q.0) in
-            record {
-              apart = λ i k a lk u w. turn i k (else i (omega arith) u) (else k lk w) (h i k a lk);
-              across = λ i k a b lk. turn i k (else i (omega arith) (omega arith)) (else k lk (omega arith)) ((order cmp o (keys rs)).chain _ _ _ (h i j a l) (h j k b lk));
-            }
+    -- it is queued, and stays in slot j
+    pub rekeys : slots ss ≡ slots rs → (j : ℕ) → j ≡ index_of rs p → Queued rs n p → InOrder (before_by cmp) rs n → GapAt (before_by cmp) ss j n
+    rekeys es j is q h =
+        let same : (k : ℕ) → in_slot ss k ≡ in_slot rs k = λ k. ap (λ xs. get_or xs k 0) es in
+        let else : (k : ℕ) → k < n → (k ≡ j → ⊥) → in_slot rs k ≡ p → ⊥ = λ k l u e. u (sym (linked.back k l) ∙ ap (index_of rs) e ∙ sym is) in
+        let l : j < n = omega (arith, q.0) in
+        record {
+          apart = λ i k a lk u w. turn i k (same i) (same k) (else i (omega arith) u) (else k lk w) (h i k a lk);
+          across = λ i k a b lk. turn i k (same i) (same k) (else i (omega arith) (omega arith)) (else k lk (omega arith)) ((order cmp o (keys rs)).chain _ _ _ (h i j a l) (h j k b lk));
+        }

@@ -1,6 +1,6 @@
 // The queue as a binary heap in the slots of the records, for any order of keys.
 // Slot k has its children in slots 2k + 1 and 2k + 2. Places do not move: slots and indexes do.
-ghost use Rattle.std.specs.Prelude.{◌≡◌, ℕ, ◌+◌, ◌*◌, ◌<◌, ◌≤◌, length, true, false, Some, IfSome, MatchOption, slice_set};
+ghost use Rattle.std.specs.Prelude.{◌≡◌, ℕ, ◌+◌, ◌-◌, ◌*◌, ◌<◌, ◌≤◌, length, true, false, Some, IfSome, MatchOption, slice_set};
 ghost use Rattle.std.specs.List.{slice_get};
 ghost use Rattle.bench.specs.Changes.{Dequeued, Enqueued, Heaped, HeapedBut, Holds, Reordered};
 ghost use Rattle.bench.specs.Heap.{Child};
@@ -181,6 +181,22 @@ impl<'a, P, K: Copy + Ord> Queue<'a, P, K> {
         self.sift_down(moved);
     }
 
+    // Puts a place under a key into the first unused slot, wherever that leaves the order.
+    fn append(&mut self, place: u16, key: K)
+        requires inside { (place < length self.old.records.now) × (place < 4096) }
+        requires new { Holds self.old place → ⊥ }
+        ensures lender { self.new.records.ghost_name ≡ self.old.records.ghost_name }
+        ensures used { self.new.used ≡ self.old.used + 1 }
+        ensures slots { slot_column self.new.records.now ≡ slice_set (slot_column self.old.records.now) self.old.used place }
+        ensures indexes { index_column self.new.records.now ≡ slice_set (index_column self.old.records.now) place self.old.used }
+        ensures rekeyed { Rekeyed self.old.records.now self.new.records.now place key }
+    {
+        let Queue { records, used, .. } = self;
+        put_key(records, place, key);
+        link(records, *used, place);
+        *used += 1;
+    }
+
     // Queues a place that is not queued.
     fn insert(&mut self, place: u16, key: K)
         requires inside { (place < length self.old.records.now) × (place < 4096) }
@@ -188,11 +204,8 @@ impl<'a, P, K: Copy + Ord> Queue<'a, P, K> {
         ensures enqueued { Enqueued self.old self.new place key }
         ensures order { Heaped K.Ord.cmp self.old → Heaped K.Ord.cmp self.new }
     {
-        let Queue { records, used, .. } = self;
-        let slot = *used;
-        put_key(records, place, key);
-        link(records, slot, place);
-        *used += 1;
+        let slot = self.used;
+        self.append(place, key);
         self.restore(slot);
     }
 
@@ -221,6 +234,15 @@ impl<'a, P, K: Copy + Ord> Queue<'a, P, K> {
         }
     }
 
+    // Leaves out the last used slot.
+    fn leave_out_last(&mut self)
+        requires { 0 < self.old.used }
+        ensures records { self.new.records ≡ self.old.records }
+        ensures used { self.new.used ≡ self.old.used - 1 }
+    {
+        self.used -= 1;
+    }
+
     // Takes a queued place out of the queue.
     pub(crate) fn dequeue(&mut self, place: u16)
         requires { Holds self.old place }
@@ -230,7 +252,7 @@ impl<'a, P, K: Copy + Ord> Queue<'a, P, K> {
         let slot = self.slot_of(place);
         let last = self.used - 1;
         self.swap(slot, last);
-        self.used = last;
+        self.leave_out_last();
         if slot < last {
             self.restore(slot);
         }

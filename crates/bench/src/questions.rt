@@ -64,6 +64,7 @@ impl<'a, P: PriceKind> Bench<'a, P> {
 
     // The place in the queue that comes first, or none where the queue is empty. Where the queue is not in heap order,
     // which of the queued places it is is free.
+    #[tactic(auto, using(crate::proofs::Prices::top_is_least))]
     pub fn top(&self) -> Option<u16>
         ensures place { MatchOption result ((q : ℕ) → Waits self.now q → ⊥) (λ p. Waits self.now p × (p < room self.now) × (p < 4096)) }
         ensures least { Sorted P.PriceKind.value self.now → IfSome result (λ p. Least P.PriceKind.value self.now p) }

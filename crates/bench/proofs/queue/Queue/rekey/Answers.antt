@@ -31,4 +31,4 @@ returns-clause-order g c = λ o.
     let q = c.args.self.now in
     let w = c.put_key.ensures in
     let p = c.args.place in
-    c.restore.ensures.order (rekeys g.K.Ord.cmp g.met.K.Ord.total q.records.now c.put_key.new.records q.used w.slots p c.args.key w.rekeyed.0 (linked q) c.slot_of-slot.result c.slot_of-slot.ensures c.requires o)
+    c.restore.ensures.order (rekeys g.K.Ord.cmp g.met.K.Ord.total q.records.now c.put_key.new.records q.used p c.args.key w.rekeyed.0 (linked q) w.slots c.slot_of-slot.result c.slot_of-slot.ensures c.requires o)
