@@ -4,14 +4,15 @@ use Rattle.std.proofs.lemmas.List.{length-map, length-set, get_or-set_same, get_
 use Rattle.bench.specs.declared.record.Record.{Record}
 use Rattle.std.specs.Cmp.{IsTotalOrder}
 use Rattle.std.specs.declared.cmp.Ordering.{Ordering}
-use Rattle.bench.specs.declared.queue.Queue.{Queue}
-use Rattle.bench.specs.Changes.{Enqueued, Heaped, HeapedBut, Holds}
+use Rattle.bench.specs.declared.bench.Bench.{Bench}
+use Rattle.bench.specs.Changes.{Enqueued, Heaped, HeapedBut}
+use Rattle.bench.specs.Contents.{SameLender, Waits}
 use Rattle.bench.specs.Order.{before_by}
 use Rattle.bench.specs.Sorted.{GapAt}
-use Rattle.bench.specs.Records.{SamePast, in_slot, index_of, indexes, slots}
-use Rattle.bench.specs.Queue.{Others, Queued, QueuedBelow, Rekeyed}
+use Rattle.bench.specs.Records.{in_slot, index_of, indexes, slots}
+use Rattle.bench.specs.Queue.{Others, Queued, Rekeyed}
 use Rattle.bench.proofs.Links.{Linked, linked, slots_below}
-use Rattle.bench.proofs.Past.{insert_past}
+use Rattle.bench.proofs.Past.{SamePast, insert_past}
 use Rattle.bench.proofs.Pigeons.{fewer}
 use Rattle.bench.proofs.Sifts.{appends}
 use Rattle.bench.proofs.Slots as by_number
@@ -58,12 +59,12 @@ module _ {P K : Type 0} (rs ss : List (Record P K)) (n p : ℕ) (es : slots ss �
       λ a. by_number.add_out (in_slot rs) (in_slot ss) (index_of rs) (index_of ss) n p gp append_same jp jo h.back new q a u,
     )
 
-    append_past : (key : K) → Rekeyed rs ss p key → (m : ℕ) → p < m → QueuedBelow rs n m → SamePast rs ss m
+    append_past : (key : K) → Rekeyed rs ss p key → (m : ℕ) → p < m → ((q : ℕ) → Queued rs n q → q < m) → SamePast rs ss m
     append_past key r m l w = insert_past rs ss m p key r l n (fewer rs n p m h (slots_below rs n m h w) l new) es ei
 
 -- the queue with one place more
-module _ {P K : Type 0} (q x : Queue P K) (p : ℕ) (key : K) (es : slots x.records.now ≡ set (slots q.records.now) q.used p) (lender : x.records.ghost_name ≡ q.records.ghost_name) (u : x.used ≡ q.used + 1) (r : Rekeyed q.records.now x.records.now p key) where
-  pub appended : indexes x.records.now ≡ set (indexes q.records.now) p q.used → p < length q.records.now → p < 4096 → (Holds q p → ⊥) → Enqueued q x p key
+module _ {P K : Type 0} (q x : Bench P K) (p : ℕ) (key : K) (es : slots x.records.now ≡ set (slots q.records.now) q.used p) (lender : SameLender q x) (u : x.used ≡ q.used + 1) (r : Rekeyed q.records.now x.records.now p key) where
+  pub appended : indexes x.records.now ≡ set (indexes q.records.now) p q.used → p < length q.records.now → p < 4096 → (Waits q p → ⊥) → Enqueued q x p key
   appended ei lp lo new =
       let rs = q.records.now in
       let ss = x.records.now in
@@ -76,6 +77,6 @@ module _ {P K : Type 0} (q x : Queue P K) (p : ℕ) (key : K) (es : slots x.reco
         past = append_past rs ss q.used p es ei h lp lo new key r;
       }
 
-  pub append_gap : (cmp : K → K → Ordering) → IsTotalOrder cmp → (Holds q p → ⊥) → Heaped cmp q → HeapedBut cmp x q.used
+  pub append_gap : (cmp : K → K → Ordering) → IsTotalOrder cmp → (Waits q p → ⊥) → Heaped cmp q → HeapedBut cmp x q.used
   append_gap cmp o new heap = subst (λ n. GapAt (before_by cmp) x.records.now q.used n) (sym u)
       (appends cmp o q.records.now x.records.now q.used p key r.0 (linked q) (append_same q.records.now x.records.now q.used p es) new heap)

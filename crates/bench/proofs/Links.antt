@@ -5,9 +5,9 @@ use lib.Seq.{map-set_same}
 use Rattle.std.proofs.lemmas.Bool.{cases_eq}
 use Rattle.std.proofs.lemmas.List.Edits.{Swapped, swap_is, swapped_from_swap}
 use Rattle.bench.specs.declared.record.Record.{Record}
-use Rattle.bench.specs.declared.queue.Queue.{Queue}
+use Rattle.bench.specs.declared.bench.Bench.{Bench}
 use Rattle.bench.specs.Records.{Exchanged, in_slot, index_of, indexes, slots}
-use Rattle.bench.specs.Queue.{Back, Low, Named, Queued, QueuedBelow, SamePlaces}
+use Rattle.bench.specs.Queue.{Back, Low, Named, Queued}
 use Rattle.bench.proofs.Slots as by_number
 
 -- what a queue keeps: the used slots and the indexes agree; unused slots and the indexes of other places are free
@@ -18,7 +18,11 @@ pub record Linked {P K : Type 0} (rs : List (Record P K)) (used : ℕ) : Type 0 
   pub low : Low rs used
   pub back : Back rs used
 
-pub linked : {P K : Type 0} (q : Queue P K) → Linked q.records.now q.used
+-- the same places are queued
+abbrev pub SamePlaces : {P K : Type 0} → List (Record P K) → List (Record P K) → ℕ → Type 0
+SamePlaces rs ss n = (p : ℕ) → (Queued rs n p → Queued ss n p) × (Queued ss n p → Queued rs n p)
+
+pub linked : {P K : Type 0} (q : Bench P K) → Linked q.records.now q.used
 linked q = record { within = q.within; small = q.small; named = q.named; low = q.low; back = q.back }
 
 module _ {P K : Type 0} (rs : List (Record P K)) where
@@ -30,7 +34,7 @@ module _ {P K : Type 0} (rs : List (Record P K)) where
   pub slot_queued : (n k : ℕ) → Linked rs n → k < n → Queued rs n (in_slot rs k)
   slot_queued n k h l = let e = h.back k l in (subst (λ m. m < n) (sym e) l, ap (in_slot rs) e)
 
-  pub slots_below : (n m : ℕ) → Linked rs n → QueuedBelow rs n m → (k : ℕ) → k < n → in_slot rs k < m
+  pub slots_below : (n m : ℕ) → Linked rs n → ((q : ℕ) → Queued rs n q → q < m) → (k : ℕ) → k < n → in_slot rs k < m
   slots_below n m h w k l = w (in_slot rs k) (slot_queued n k h l)
 
 module _ {P K : Type 0} (rs ss : List (Record P K)) where
@@ -61,13 +65,13 @@ module _ {P K : Type 0} (rs ss : List (Record P K)) where
         (λ u. ap (λ xs. get_or xs q 0) ei ∙ get_or-set_other (set (indexes rs) q a) p q b 0 u ∙ get_or-set_same (indexes rs) q a 0 lq) (cases_eq q p) in
         let jo : (k : ℕ) → (k ≡ p → ⊥) → (k ≡ q → ⊥) → index_of ss k ≡ index_of rs k = λ k u v.
         ap (λ xs. get_or xs k 0) ei ∙ get_or-set_other (set (indexes rs) q a) p k b 0 u ∙ get_or-set_other (indexes rs) q k a 0 v in
-        record {
-          into = by_number.swap_into (in_slot rs) (in_slot ss) (index_of rs) (index_of ss) a b n la lb s ja jb jo h.back;
-          out = by_number.swap_out (in_slot rs) (in_slot ss) (index_of rs) (index_of ss) a b n la lb s ja jb jo h.back;
-        }
+        λ y. (
+          by_number.swap_into (in_slot rs) (in_slot ss) (index_of rs) (index_of ss) a b n la lb s ja jb jo h.back y,
+          by_number.swap_out (in_slot rs) (in_slot ss) (index_of rs) (index_of ss) a b n la lb s ja jb jo h.back y,
+        )
 
 -- the record in a used slot names one of the records
-module _ {P K : Type 0} (q : Queue P K) (k : ℕ) (d : Record P K) where
+module _ {P K : Type 0} (q : Bench P K) (k : ℕ) (d : Record P K) where
   pub slot_within : k < q.used → (get_or q.records.now k d).slot < length q.records.now
   slot_within l = let w = q.within in subst (λ p. p < length q.records.now) (get_or-map (λ r. r.slot) q.records.now k d 0 (omega arith)) (q.named k l)
 
@@ -88,12 +92,12 @@ module _ {P K : Type 0} (rs ss : List (Record P K)) where
         }
 
     pub requeued : (n : ℕ) → SamePlaces rs ss n
-    requeued n = record {
-      into = λ q h. let e : index_of ss q ≡ index_of rs q = ap (λ xs. get_or xs q 0) ei in let l = h.0 in (omega arith, (λ i. get_or (es i) (e i) 0) ∙ h.1);
-      out = λ q h. let e : index_of rs q ≡ index_of ss q = ap (λ xs. get_or xs q 0) (sym ei) in let l = h.0 in (omega arith, (λ i. get_or (sym es i) (e i) 0) ∙ h.1);
-    }
+    requeued n q = (
+      λ h. let e : index_of ss q ≡ index_of rs q = ap (λ xs. get_or xs q 0) ei in let l = h.0 in (omega arith, (λ i. get_or (es i) (e i) 0) ∙ h.1),
+      λ h. let e : index_of rs q ≡ index_of ss q = ap (λ xs. get_or xs q 0) (sym ei) in let l = h.0 in (omega arith, (λ i. get_or (sym es i) (e i) 0) ∙ h.1),
+    )
 
 -- a record is replaced by one with its slot and its index
-module _ {P K : Type 0} (q : Queue P K) (i : ℕ) (d r : Record P K) where
+module _ {P K : Type 0} (q : Bench P K) (i : ℕ) (d r : Record P K) where
   pub rewritten : r.slot ≡ (get_or q.records.now i d).slot → r.index ≡ (get_or q.records.now i d).index → Linked (set q.records.now i r) q.used
   rewritten es ei = relinked q.records.now (set q.records.now i r) (map-set_same (λ r. r.slot) q.records.now i r d es) (map-set_same (λ r. r.index) q.records.now i r d ei) q.used (linked q)

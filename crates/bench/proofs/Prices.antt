@@ -13,7 +13,7 @@ use Rattle.rows.specs.Rows.{Price, less}
 use Rattle.rows.specs.Keys.{before, in_turn, key_less}
 use Rattle.rows.proofs.Keys.{before_chain, before_one_way}
 use Rattle.bench.specs.declared.key.Key.{Key}
-use Rattle.bench.specs.declared.queue.Queue.{Queue}
+use Rattle.bench.specs.declared.bench.Bench.{Bench}
 use Rattle.bench.specs.declared.record.Record.{Record}
 use Rattle.bench.specs.Heap.{Ordered}
 use Rattle.bench.specs.Keys.{key_of}
@@ -43,7 +43,7 @@ module _ {P : Type 0} (v : P → Price) (rs : List (Record P (Key P))) (n : ℕ)
       ∙ heaps.top (ahead before (keys_in v rs)) (ranks before (record { one_way = before_one_way; chain = before_chain }) (keys_in v rs)) (in_slot rs) n h i i (omega arith) w.0
 
 -- what is first is the least, where the queue is in heap order
-pub top_is_least : {P : Type 0} (v : P → Price) (q : Queue P (Key P)) (r : Option ℕ) → IfSome r (λ p. (0 < q.used) × (p ≡ in_slot q.records.now 0)) → SortedIn v q.records.now q.used → IfSome r (λ p. LeastIn v q.records.now q.used p)
+pub top_is_least : {P : Type 0} (v : P → Price) (q : Bench P (Key P)) (r : Option ℕ) → IfSome r (λ p. (0 < q.used) × (p ≡ in_slot q.records.now 0)) → SortedIn v q.records.now q.used → IfSome r (λ p. LeastIn v q.records.now q.used p)
 top_is_least v q None f h = tt
 top_is_least v q (Some p) f h = top_least v q.records.now q.used (linked q) p f.1 f.0 h
 

@@ -4,7 +4,7 @@ use Rattle.std.proofs.lemmas.Bool.{cases_eq}
 use Rattle.std.proofs.lemmas.List.Edits.{Swapped}
 use Rattle.std.specs.Cmp.{IsTotalOrder}
 use Rattle.std.specs.declared.cmp.Ordering.{Ordering}
-use Rattle.bench.specs.declared.queue.Queue.{Queue}
+use Rattle.bench.specs.declared.bench.Bench.{Bench}
 use Rattle.bench.specs.declared.record.Record.{Record}
 use Rattle.bench.specs.Changes.{HeapedBut, Reordered}
 use Rattle.bench.specs.Heap.{Child, Gap, Le, Under}
@@ -25,7 +25,7 @@ order cmp o ks = ranks (before_by cmp) (weak cmp o) ks
 
 module _ {P K : Type 0} (cmp : K → K → Ordering) (o : IsTotalOrder cmp) where
   -- slot j and its child c are exchanged
-  module _ (q r : Queue P K) (m : Reordered q r) (j c : ℕ) (x : Exchanged q.records.now r.records.now j c) (is : Child j c) (lj : j < q.used) (lc : c < q.used) where
+  module _ (q r : Bench P K) (m : Reordered q r) (j c : ℕ) (x : Exchanged q.records.now r.records.now j c) (is : Child j c) (lj : j < q.used) (lc : c < q.used) where
     s : Swapped (in_slot q.records.now) (in_slot r.records.now) j c
     s = swapped q.records.now r.records.now j c x q.used (linked q) lj lc
 

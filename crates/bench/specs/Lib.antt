@@ -4,6 +4,6 @@ pub mod Heap
 pub mod Records
 pub mod Queue
 pub mod Sorted
-pub mod Changes
 pub mod Prices
 pub mod Contents
+pub mod Changes

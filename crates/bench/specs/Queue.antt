@@ -1,7 +1,11 @@
 -- The queue in the records: its first slots are used, and each names a place whose index names that slot.
 use Rattle.std.specs.Prelude.{◌≡◌, ℕ, ◌<◌, List, length, ◌≢◌, slice_set}
 use Rattle.bench.specs.declared.record.Record.{Record}
-use Rattle.bench.specs.Records.{SamePast, in_slot, index_of, keys, lookaheads, standings}
+use Rattle.bench.specs.Records.{in_slot, index_of, keys, lookaheads, standings}
+
+-- slot k is there, and names one of the records
+abbrev pub Names : {P K : Type 0} → List (Record P K) → ℕ → Type 0
+Names rs k = (k < length rs) × (k < 4096) × (in_slot rs k < length rs)
 
 -- each used slot names one of the records
 abbrev pub Named : {P K : Type 0} → List (Record P K) → ℕ → Type 0
@@ -18,19 +22,6 @@ Back rs used = (k : ℕ) → k < used → index_of rs (in_slot rs k) ≡ k
 -- place p is queued: its index names a used slot that names p
 abbrev pub Queued : {P K : Type 0} → List (Record P K) → ℕ → ℕ → Type 0
 Queued rs used p = (index_of rs p < used) × (in_slot rs (index_of rs p) ≡ p)
-
--- only places below m are queued
-abbrev pub QueuedBelow : {P K : Type 0} → List (Record P K) → ℕ → ℕ → Type 0
-QueuedBelow rs used m = (q : ℕ) → Queued rs used q → q < m
-
--- where only places below m are queued, the records from m on stay as they were, whole
-abbrev pub StaysPast : {P K : Type 0} → List (Record P K) → List (Record P K) → ℕ → Type 0
-StaysPast rs ss used = (m : ℕ) → QueuedBelow rs used m → SamePast rs ss m
-
--- the same places are queued
-pub record SamePlaces {P K : Type 0} (rs ss : List (Record P K)) (used : ℕ) : Type 0 where
-  pub into : (p : ℕ) → Queued rs used p → Queued ss used p
-  pub out : (p : ℕ) → Queued ss used p → Queued rs used p
 
 -- of m used slots before and n after: the same places are queued, but perhaps for p
 abbrev pub Others : {P K : Type 0} → List (Record P K) → ℕ → List (Record P K) → ℕ → ℕ → Type 0

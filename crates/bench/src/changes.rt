@@ -8,20 +8,20 @@ ghost use Rattle.bench.specs.Keys.{key_of};
 
 use crate::bench::{Bench, MOST_PLACES};
 use crate::key::Key;
-use crate::queue::Queue;
 use crate::record::Record;
 use price::PriceKind;
 
 impl<'a, P: PriceKind> Bench<'a, P> {
     // A bench over lent memory, whatever that holds: nothing is written, and nothing is queued.
     pub fn lay(records: &'a mut [Record<P>], number: u32) -> Bench<'a, P>
-        ensures memory { (result.queue.records.now ≡ records.old) × (result.queue.records.ghost_name ≡ records.entry.ghost_name) }
+        ensures memory { (result.records.now ≡ records.old) × (result.records.ghost_name ≡ records.entry.ghost_name) }
         ensures number { result.number ≡ number }
         ensures queue { (q : ℕ) → Waits result q → ⊥ }
         ensures order { Sorted P.PriceKind.value result }
     {
         Bench {
-            queue: Queue { records, used: 0 },
+            records,
+            used: 0,
             number,
         }
     }
@@ -39,10 +39,10 @@ impl<'a, P: PriceKind> Bench<'a, P> {
         ensures past { (n : ℕ) → place < n → past n self.new ≡ past n self.old }
     {
         let at = usize::from(place);
-        if at >= self.queue.records.len() {
+        if at >= self.records.len() {
             return false;
         }
-        let Queue { records, .. } = &mut self.queue;
+        let Bench { records, .. } = self;
         records[at].standing = standing;
         true
     }
@@ -60,10 +60,10 @@ impl<'a, P: PriceKind> Bench<'a, P> {
         ensures past { (n : ℕ) → place < n → past n self.new ≡ past n self.old }
     {
         let at = usize::from(place);
-        if at >= self.queue.records.len() {
+        if at >= self.records.len() {
             return false;
         }
-        let Queue { records, .. } = &mut self.queue;
+        let Bench { records, .. } = self;
         records[at].lookahead = lookahead;
         true
     }
@@ -92,7 +92,7 @@ impl<'a, P: PriceKind> Bench<'a, P> {
         if !self.can_queue(place) {
             return false;
         }
-        self.queue.enqueue(place, key);
+        self.insert_or_rekey(place, key);
         true
     }
 
@@ -109,7 +109,7 @@ impl<'a, P: PriceKind> Bench<'a, P> {
         if !self.is_queued(place) {
             return false;
         }
-        self.queue.dequeue(place);
+        self.remove(place);
         true
     }
 
@@ -121,6 +121,6 @@ impl<'a, P: PriceKind> Bench<'a, P> {
         ensures order { Sorted P.PriceKind.value self.new }
         ensures past { (n : ℕ) → past n self.new ≡ past n self.old }
     {
-        self.queue.used = 0;
+        self.used = 0;
     }
 }

@@ -2,14 +2,15 @@
 // Slot k has its children in slots 2k + 1 and 2k + 2. Places do not move: slots and indexes do.
 ghost use Rattle.std.specs.Prelude.{◌≡◌, ℕ, ◌+◌, ◌-◌, ◌*◌, ◌<◌, ◌≤◌, length, true, false, Some, IfSome, MatchOption, slice_set};
 ghost use Rattle.std.specs.List.{slice_get};
-ghost use Rattle.bench.specs.Changes.{Dequeued, Enqueued, Heaped, HeapedBut, Holds, Reordered};
+ghost use Rattle.bench.specs.Changes.{Dequeued, Enqueued, Heaped, HeapedBut, Reordered};
+ghost use Rattle.bench.specs.Contents.{SameLender, Waits, room};
 ghost use Rattle.bench.specs.Heap.{Child};
 ghost use Rattle.bench.specs.Order.{before_by};
-ghost use Rattle.bench.specs.Queue.{Rekeyed};
+ghost use Rattle.bench.specs.Queue.{Names, Rekeyed};
 ghost use Rattle.bench.specs.Records.{Exchanged, Kept, in_slot, index_of, indexes as index_column, keys, slots as slot_column};
 ghost use Rattle.bench.specs.Sorted.{FirstOf, UnderAt, ahead};
 
-use crate::queue::Queue;
+use crate::bench::Bench;
 use crate::record::Record;
 
 // The parent of a slot.
@@ -46,8 +47,8 @@ fn put_key<P, K: Copy>(records: &mut [Record<P, K>], place: u16, key: K)
 
 // Exchanges the places in two slots, and their indexes with them.
 fn exchange<P, K>(records: &mut [Record<P, K>], a: usize, b: usize)
-    requires first { (a < length records.old) × (a < 4096) × (in_slot records.old a < length records.old) }
-    requires second { (b < length records.old) × (b < 4096) × (in_slot records.old b < length records.old) }
+    requires first { Names records.old a }
+    requires second { Names records.old b }
     ensures { Exchanged records.old records.new a b }
 {
     let p = records[a].slot;
@@ -56,10 +57,10 @@ fn exchange<P, K>(records: &mut [Record<P, K>], a: usize, b: usize)
     link(records, b, p);
 }
 
-impl<'a, P, K> Queue<'a, P, K> {
+impl<'a, P, K> Bench<'a, P, K> {
     // Is a place queued? Its index says where to look.
     pub(crate) fn holds(&self, place: u16) -> bool
-        ensures { ((result ≡ true → Holds self.now place)) × ((result ≡ false → Holds self.now place → ⊥)) }
+        ensures { ((result ≡ true → Waits self.now place)) × ((result ≡ false → Waits self.now place → ⊥)) }
     {
         let Some(record) = self.records.get(usize::from(place)) else {
             return false;
@@ -70,7 +71,7 @@ impl<'a, P, K> Queue<'a, P, K> {
 
     // The slot in which a queued place stands.
     fn slot_of(&self, place: u16) -> usize
-        requires { Holds self.now place }
+        requires { Waits self.now place }
         ensures { result ≡ index_of self.now.records.now place }
     {
         usize::from(self.records[usize::from(place)].index)
@@ -78,7 +79,7 @@ impl<'a, P, K> Queue<'a, P, K> {
 
     // The place in the first slot.
     pub(crate) fn first(&self) -> Option<u16>
-        ensures place { MatchOption result ((q : ℕ) → Holds self.now q → ⊥) (λ p. Holds self.now p × (p < length self.now.records.now) × (p < 4096)) }
+        ensures place { MatchOption result ((q : ℕ) → Waits self.now q → ⊥) (λ p. Waits self.now p × (p < room self.now) × (p < 4096)) }
         ensures slot { IfSome result (λ p. (0 < self.now.used) × (p ≡ in_slot self.now.records.now 0)) }
     {
         self.records[..self.used].first().map(|record| record.slot)
@@ -91,12 +92,12 @@ impl<'a, P, K> Queue<'a, P, K> {
         ensures exchanged { Exchanged self.old.records.now self.new.records.now a b }
         ensures reordered { Reordered self.old self.new }
     {
-        let Queue { records, .. } = self;
+        let Bench { records, .. } = self;
         exchange(records, a, b);
     }
 }
 
-impl<'a, P, K: Copy + Ord> Queue<'a, P, K> {
+impl<'a, P, K: Copy + Ord> Bench<'a, P, K> {
     // The key of the place in a used slot, and the place.
     #[tactic(auto, using(crate::proofs::Links::slot_within, crate::proofs::Columns::nth_column))]
     fn entry(&self, slot: usize) -> (K, u16)
@@ -183,15 +184,15 @@ impl<'a, P, K: Copy + Ord> Queue<'a, P, K> {
 
     // Puts a place under a key into the first unused slot, wherever that leaves the order.
     fn append(&mut self, place: u16, key: K)
-        requires inside { (place < length self.old.records.now) × (place < 4096) }
-        requires new { Holds self.old place → ⊥ }
-        ensures lender { self.new.records.ghost_name ≡ self.old.records.ghost_name }
+        requires inside { (place < room self.old) × (place < 4096) }
+        requires new { Waits self.old place → ⊥ }
+        ensures lender { SameLender self.old self.new }
         ensures used { self.new.used ≡ self.old.used + 1 }
         ensures slots { slot_column self.new.records.now ≡ slice_set (slot_column self.old.records.now) self.old.used place }
         ensures indexes { index_column self.new.records.now ≡ slice_set (index_column self.old.records.now) place self.old.used }
         ensures rekeyed { Rekeyed self.old.records.now self.new.records.now place key }
     {
-        let Queue { records, used, .. } = self;
+        let Bench { records, used, .. } = self;
         put_key(records, place, key);
         link(records, *used, place);
         *used += 1;
@@ -199,8 +200,8 @@ impl<'a, P, K: Copy + Ord> Queue<'a, P, K> {
 
     // Queues a place that is not queued.
     fn insert(&mut self, place: u16, key: K)
-        requires inside { (place < length self.old.records.now) × (place < 4096) }
-        requires new { Holds self.old place → ⊥ }
+        requires inside { (place < room self.old) × (place < 4096) }
+        requires new { Waits self.old place → ⊥ }
         ensures enqueued { Enqueued self.old self.new place key }
         ensures order { Heaped K.Ord.cmp self.old → Heaped K.Ord.cmp self.new }
     {
@@ -211,19 +212,19 @@ impl<'a, P, K: Copy + Ord> Queue<'a, P, K> {
 
     // Gives a queued place another key, and moves it to where that belongs.
     fn rekey(&mut self, place: u16, key: K)
-        requires { Holds self.old place }
+        requires { Waits self.old place }
         ensures enqueued { Enqueued self.old self.new place key }
         ensures order { Heaped K.Ord.cmp self.old → Heaped K.Ord.cmp self.new }
     {
         let slot = self.slot_of(place);
-        let Queue { records, .. } = self;
+        let Bench { records, .. } = self;
         put_key(records, place, key);
         self.restore(slot);
     }
 
     // Queues a place under a key, or gives it that key where it is queued already.
-    pub(crate) fn enqueue(&mut self, place: u16, key: K)
-        requires { (place < length self.old.records.now) × (place < 4096) }
+    pub(crate) fn insert_or_rekey(&mut self, place: u16, key: K)
+        requires { (place < room self.old) × (place < 4096) }
         ensures enqueued { Enqueued self.old self.new place key }
         ensures order { Heaped K.Ord.cmp self.old → Heaped K.Ord.cmp self.new }
     {
@@ -237,15 +238,16 @@ impl<'a, P, K: Copy + Ord> Queue<'a, P, K> {
     // Leaves out the last used slot.
     fn leave_out_last(&mut self)
         requires { 0 < self.old.used }
-        ensures records { self.new.records ≡ self.old.records }
+        ensures lender { SameLender self.old self.new }
+        ensures records { self.new.records.now ≡ self.old.records.now }
         ensures used { self.new.used ≡ self.old.used - 1 }
     {
         self.used -= 1;
     }
 
     // Takes a queued place out of the queue.
-    pub(crate) fn dequeue(&mut self, place: u16)
-        requires { Holds self.old place }
+    pub(crate) fn remove(&mut self, place: u16)
+        requires { Waits self.old place }
         ensures dequeued { Dequeued self.old self.new place }
         ensures order { Heaped K.Ord.cmp self.old → Heaped K.Ord.cmp self.new }
     {

@@ -6,7 +6,6 @@ mod changes;
 mod heap;
 mod key;
 mod questions;
-mod queue;
 mod record;
 
 pub use bench::{Bench, MOST_PLACES};

@@ -22,14 +22,14 @@ impl<'a, P: PriceKind> Bench<'a, P> {
     pub fn len(&self) -> usize
         ensures { result ≡ room self.now }
     {
-        self.queue.records.len()
+        self.records.len()
     }
 
     // The record of a place, or none outside the memory.
     fn record(&self, place: u16) -> Option<&Record<P>>
-        ensures { option_map (λ r. r.now) result ≡ slice_get self.now.queue.records.now place }
+        ensures { option_map (λ r. r.now) result ≡ slice_get self.now.records.now place }
     {
-        self.queue.records.get(usize::from(place))
+        self.records.get(usize::from(place))
     }
 
     // The standing of a place, or none outside the memory.
@@ -59,7 +59,7 @@ impl<'a, P: PriceKind> Bench<'a, P> {
     pub fn is_queued(&self, place: u16) -> bool
         ensures { ((result ≡ true → Waits self.now place)) × ((result ≡ false → Waits self.now place → ⊥)) }
     {
-        self.queue.holds(place)
+        self.holds(place)
     }
 
     // The place in the queue that comes first, or none where the queue is empty. Where the queue is not in heap order,
@@ -69,6 +69,6 @@ impl<'a, P: PriceKind> Bench<'a, P> {
         ensures place { MatchOption result ((q : ℕ) → Waits self.now q → ⊥) (λ p. Waits self.now p × (p < room self.now) × (p < 4096)) }
         ensures least { Sorted P.PriceKind.value self.now → IfSome result (λ p. Least P.PriceKind.value self.now p) }
     {
-        self.queue.first()
+        self.first()
     }
 }

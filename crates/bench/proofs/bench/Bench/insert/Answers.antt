@@ -1,6 +1,6 @@
 use Rattle.bench.proofs.Appends.{append_gap, appended}
 use Rattle.bench.proofs.Moves.{enqueued_then}
-use Rattle.bench.proofs.queue.Queue.insert.Goals as goal
+use Rattle.bench.proofs.bench.Bench.insert.Goals as goal
 
 pub returns-clause-enqueued : goal.returns-clause-enqueued
 returns-clause-enqueued g c =

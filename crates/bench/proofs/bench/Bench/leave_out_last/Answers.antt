@@ -1,5 +1,5 @@
 use Rattle.std.proofs.Common.{arith}
-use Rattle.bench.proofs.queue.Queue.leave_out_last.Goals as goal
+use Rattle.bench.proofs.bench.Bench.leave_out_last.Goals as goal
 
 pub invariant_of-self : goal.invariant_of-self
 invariant_of-self g c =

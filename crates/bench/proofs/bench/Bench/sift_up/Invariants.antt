@@ -1,6 +1,6 @@
 use Rattle.std.proofs.Common.{◌≤◌}
 use Rattle.bench.specs.Changes.{HeapedBut, Reordered}
-use Rattle.bench.proofs.queue.Queue.sift_up.Given as goal
+use Rattle.bench.proofs.bench.Bench.sift_up.Given as goal
 
 abbrev pub invariant-loop-at : goal.invariant-loop-at
 invariant-loop-at g l = record {

@@ -1,7 +1,7 @@
 use Rattle.std.proofs.Common.{refl}
 use Rattle.bench.proofs.Links.{linked, swap_same}
 use Rattle.bench.proofs.Stays.{swap_stays}
-use Rattle.bench.proofs.queue.Queue.swap.Goals as goal
+use Rattle.bench.proofs.bench.Bench.swap.Goals as goal
 
 pub returns-clause-reordered : goal.returns-clause-reordered
 returns-clause-reordered g c =
@@ -10,7 +10,7 @@ returns-clause-reordered g c =
     let ss = c.exchange.new.records in
     let x = c.exchange.ensures in
     record {
-      lender = refl;
+      lender = (refl, refl, c.exchange.auto.records);
       used = refl;
       kept = x.kept;
       same = swap_same rs ss c.args.a c.args.b x q.used (linked q) c.requires.first c.requires.second;

@@ -1,6 +1,6 @@
 use Rattle.bench.proofs.Sifts.{left_child, only_child, right_child}
-use Rattle.bench.proofs.queue.Queue.first_child.Goals as goal
-use Rattle.bench.proofs.queue.Queue.first_child.Goals.{else-right-self-via-then-right-self+else-comes_before, else-right-self-via-else-right-self}
+use Rattle.bench.proofs.bench.Bench.first_child.Goals as goal
+use Rattle.bench.proofs.bench.Bench.first_child.Goals.{else-right-self-via-then-right-self+else-comes_before, else-right-self-via-else-right-self}
 
 pub returns-then-comes_before-clause-first : goal.returns-then-comes_before-clause-first
 returns-then-comes_before-clause-first g c = right_child g.K.Ord.cmp g.met.K.Ord.total c.args.self.now.records.now c.args.at c.args.self.now.used c.if-comes_before.ensures

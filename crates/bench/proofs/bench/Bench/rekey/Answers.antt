@@ -3,7 +3,7 @@ use Rattle.bench.proofs.Links.{linked, relinked, requeued}
 use Rattle.bench.proofs.Moves.{enqueued_then}
 use Rattle.bench.proofs.Past.{key_past}
 use Rattle.bench.proofs.Sifts.{rekeys}
-use Rattle.bench.proofs.queue.Queue.rekey.Goals as goal
+use Rattle.bench.proofs.bench.Bench.rekey.Goals as goal
 
 pub invariant_of-self : goal.invariant_of-self
 invariant_of-self g c =
@@ -19,9 +19,9 @@ returns-clause-enqueued g c =
     let s = requeued q.records.now c.put_key.new.records w.slots w.indexes q.used in
     let p = c.args.place in
     enqueued_then q _ c.restore.new.self p c.args.key (record {
-      lender = refl;
-      holds = s.into p c.requires;
-      others = λ x u. (s.into x, s.out x);
+      lender = (refl, refl, c.put_key.auto.records);
+      holds = (s p).0 c.requires;
+      others = λ x u. s x;
       rekeyed = w.rekeyed;
       past = λ n l b. key_past q.records.now c.put_key.new.records n p c.args.key w.rekeyed l w.slots w.indexes;
     }) c.restore.ensures.reordered

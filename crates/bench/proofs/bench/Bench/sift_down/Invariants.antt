@@ -2,7 +2,7 @@ use Rattle.std.proofs.Common.{◌-◌, ◌<◌}
 use Rattle.bench.specs.Changes.{HeapedBut, Reordered}
 use Rattle.bench.specs.Order.{before_by}
 use Rattle.bench.specs.Sorted.{UnderAt}
-use Rattle.bench.proofs.queue.Queue.sift_down.Given as goal
+use Rattle.bench.proofs.bench.Bench.sift_down.Given as goal
 
 abbrev pub invariant-loop-child : goal.invariant-loop-child
 invariant-loop-child g l = record {

@@ -3,7 +3,7 @@ use Rattle.bench.specs.Records.{indexes, slots}
 use Rattle.bench.proofs.Appends.{append_linked, set_after}
 use Rattle.bench.proofs.Links.{linked}
 use Rattle.bench.proofs.Pigeons.{fewer}
-use Rattle.bench.proofs.queue.Queue.append.Goals as goal
+use Rattle.bench.proofs.bench.Bench.append.Goals as goal
 
 pub link-requires-clause-slot : goal.link-requires-clause-slot
 link-requires-clause-slot g c =

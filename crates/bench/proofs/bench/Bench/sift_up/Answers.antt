@@ -1,7 +1,7 @@
 use Rattle.std.proofs.Common.{◌<◌, arith}
 use Rattle.bench.proofs.Moves.{reordered_again}
 use Rattle.bench.proofs.Sifts.{step_up}
-use Rattle.bench.proofs.queue.Queue.sift_up.Goals as goal
+use Rattle.bench.proofs.bench.Bench.sift_up.Goals as goal
 
 pub loop-at-preserved : goal.loop-at-preserved
 loop-at-preserved g c =

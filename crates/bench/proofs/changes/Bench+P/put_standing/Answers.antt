@@ -1,10 +1,10 @@
 use Rattle.std.proofs.Common.{refl}
 use Rattle.bench.proofs.Links.{rewritten}
-use Rattle.bench.proofs.bench.Bench.put_standing.Goals as goal
+use Rattle.bench.proofs.changes.Bench+P.put_standing.Goals as goal
 
 pub invariant_of-self : goal.invariant_of-self
 invariant_of-self g c =
-    let q = c.args.self.now.queue in
+    let q = c.args.self.now in
     let i = c.from-at.result in
     let d = c.index-records-at.result in
     record {

@@ -1,7 +1,7 @@
 use Rattle.std.proofs.Common.{arith}
 use Rattle.bench.proofs.Moves.{reordered_again}
 use Rattle.bench.proofs.Sifts.{sinks_rest, step_down, step_under}
-use Rattle.bench.proofs.queue.Queue.sift_down.Goals as goal
+use Rattle.bench.proofs.bench.Bench.sift_down.Goals as goal
 
 pub returns-then-not-comes_before-clause-order : goal.returns-then-not-comes_before-clause-order
 returns-then-not-comes_before-clause-order g c = λ gap under.
