@@ -1,9 +1,9 @@
 -- One move of a queue after another.
-use Rattle.std.proofs.Common.{◌≡◌, ℕ, ◌<◌, ◌∙◌, subst, ⊎_elim, arith}
+use Rattle.std.proofs.Common.{ℕ, ◌∙◌, subst, ⊎_elim, arith}
 use Rattle.std.proofs.lemmas.Bool.{cases_eq}
 use Rattle.bench.specs.declared.bench.Bench.{Bench}
 use Rattle.bench.specs.Changes.{Dequeued, Enqueued, Reordered}
-use Rattle.bench.specs.Contents.{SameLender, SameQueue, Waits}
+use Rattle.bench.specs.Contents.{SameLender, Waits}
 
 module _ {P K : Type 0} (q m r : Bench P K) where
   pub lenders : SameLender q m → SameLender m r → SameLender q r

@@ -42,8 +42,7 @@ impl<'a, P: PriceKind> Bench<'a, P> {
         if at >= self.records.len() {
             return false;
         }
-        let Bench { records, .. } = self;
-        records[at].standing = standing;
+        self.records[at].standing = standing;
         true
     }
 
@@ -63,8 +62,7 @@ impl<'a, P: PriceKind> Bench<'a, P> {
         if at >= self.records.len() {
             return false;
         }
-        let Bench { records, .. } = self;
-        records[at].lookahead = lookahead;
+        self.records[at].lookahead = lookahead;
         true
     }
 }

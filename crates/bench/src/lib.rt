@@ -5,8 +5,10 @@ mod bench;
 mod changes;
 mod heap;
 mod key;
+mod members;
 mod questions;
 mod record;
+mod writes;
 
 pub use bench::{Bench, MOST_PLACES};
 pub use key::Key;

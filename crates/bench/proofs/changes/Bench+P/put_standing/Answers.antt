@@ -6,7 +6,7 @@ pub invariant_of-self : goal.invariant_of-self
 invariant_of-self g c =
     let q = c.args.self.now in
     let i = c.from-at.result in
-    let d = c.index-records-at.result in
+    let d = c.index-self-at.result in
     record {
       within = (rewritten q i d _ refl refl).within;
       small = q.small;
