@@ -7,7 +7,7 @@ use Rattle.bench.specs.Contents.{SameLender, Waits}
 
 module _ {P K : Type 0} (q m r : Bench P K) where
   pub lenders : SameLender q m → SameLender m r → SameLender q r
-  lenders h k = (k.0 ∙ h.0, k.1 ∙ h.1, k.2 ∙ h.2)
+  lenders h k = (k.0 ∙ h.0, (k.1.0 ∙ h.1.0, k.1.1 ∙ h.1.1))
 
   pub reordered_again : Reordered q m → Reordered m r → Reordered q r
   reordered_again h k = record {

@@ -40,7 +40,7 @@ module _ {P : Type 0} (v : P → Price) (rs : List (Record P (Key P))) (n : ℕ)
       let t : Queued rs n p = subst (Queued rs n) (sym e) (slot_queued rs n 0 linked l) in
       sym (ahead_keys before (keys_in v rs) q p (key_at v rs q) (key_at v rs p) (key_known q w) (key_known p t))
       ∙ (λ m. ahead before (keys_in v rs) (sym w.1 m) (e m))
-      ∙ heaps.top (ahead before (keys_in v rs)) (ranks before (record { one_way = before_one_way; chain = before_chain }) (keys_in v rs)) (in_slot rs) n h i i (omega arith) w.0
+      ∙ heaps.top (ahead before (keys_in v rs)) (ranks before (record { one_way = λ x y. before_one_way x.0 y.0 x.1 y.1; chain = λ x y z h k. before_chain z.0 y.0 x.0 z.1 y.1 x.1 k h }) (keys_in v rs)) (in_slot rs) n h i i (omega arith) w.0
 
 -- what is first is the least, where the queue is in heap order
 pub top_is_least : {P : Type 0} (v : P → Price) (q : Bench P (Key P)) (r : Option ℕ) → IfSome r (λ p. (0 < q.used) × (p ≡ in_slot q.records.now 0)) → SortedIn v q.records.now q.used → IfSome r (λ p. LeastIn v q.records.now q.used p)

@@ -2,7 +2,7 @@
 use Rattle.std.proofs.Common.{◌≡◌, ℕ, ◌+◌, ◌*◌, ◌<◌, ◌≤◌, Bool, true, false, List, get_or, set, sym, ap, ◌∙◌, subst, ⊎_elim, arith}
 use Rattle.std.proofs.lemmas.Bool.{cases_eq}
 use Rattle.std.proofs.lemmas.List.Edits.{Swapped}
-use Rattle.std.specs.Cmp.{IsTotalOrder}
+use Rattle.std.specs.Cmp.{IsStrictWeakOrder, IsTotalOrder}
 use Rattle.std.specs.declared.cmp.Ordering.{Ordering}
 use Rattle.bench.specs.declared.bench.Bench.{Bench}
 use Rattle.bench.specs.declared.record.Record.{Record}
@@ -20,7 +20,7 @@ use Rattle.bench.proofs.Ranked.{ahead_other, ranks, weak}
 abbrev pub lt : {K : Type 0} → (K → K → Ordering) → List K → ℕ → ℕ → Bool
 lt cmp ks = ahead (before_by cmp) ks
 
-pub order : {K : Type 0} (cmp : K → K → Ordering) → IsTotalOrder cmp → (ks : List K) → heaps.Ranks (lt cmp ks)
+pub order : {K : Type 0} (cmp : K → K → Ordering) → IsTotalOrder cmp → (ks : List K) → IsStrictWeakOrder (lt cmp ks)
 order cmp o ks = ranks (before_by cmp) (weak cmp o) ks
 
 module _ {P K : Type 0} (cmp : K → K → Ordering) (o : IsTotalOrder cmp) where
@@ -64,7 +64,7 @@ module _ {P K : Type 0} (cmp : K → K → Ordering) (o : IsTotalOrder cmp) wher
 
     pub sinks_rest : (c : ℕ) → false ≡ lt cmp (keys rs) (in_slot rs c) (in_slot rs j) → FirstOf (before_by cmp) rs c j n → GapAt (before_by cmp) rs j n → UnderAt (before_by cmp) rs j → InOrder (before_by cmp) rs n
     sinks_rest c t best gap under = heaps.closes (lt cmp (keys rs)) (in_slot rs) j n gap under
-        (λ k a l. (order cmp o (keys rs)).chain _ _ _ (sym t) (best k a l))
+        (λ k a l. (order cmp o (keys rs)).chain _ _ _ (best k a l) (sym t))
 
   -- place p has another key
   module _ (rs ss : List (Record P K)) (n p : ℕ) (key : K) (ek : keys ss ≡ set (keys rs) p key) (linked : Linked rs n) where
@@ -92,5 +92,5 @@ module _ {P K : Type 0} (cmp : K → K → Ordering) (o : IsTotalOrder cmp) wher
         let l : j < n = omega (arith, q.0) in
         record {
           apart = λ i k a lk u w. turn i k (same i) (same k) (else i (omega arith) u) (else k lk w) (h i k a lk);
-          across = λ i k a b lk. turn i k (same i) (same k) (else i (omega arith) (omega arith)) (else k lk (omega arith)) ((order cmp o (keys rs)).chain _ _ _ (h i j a l) (h j k b lk));
+          across = λ i k a b lk. turn i k (same i) (same k) (else i (omega arith) (omega arith)) (else k lk (omega arith)) ((order cmp o (keys rs)).chain _ _ _ (h j k b lk) (h i j a l));
         }

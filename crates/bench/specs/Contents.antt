@@ -15,7 +15,7 @@ room b = length b.records.now
 
 -- the same lent memory, laid for the same planner
 abbrev pub SameLender : {P K : Type 0} → Bench P K → Bench P K → Type 0
-SameLender b d = (d.records.ghost_name ≡ b.records.ghost_name) × (d.number ≡ b.number) × (room d ≡ room b)
+SameLender b d = (d.records.ghost_name ≡ b.records.ghost_name) × ((d.number ≡ b.number) × (room d ≡ room b))
 
 -- standing (published: g), of each place; v gives the price that a value stands for
 abbrev pub standings : {P : Type 0} → (P → Price) → Bench P (PriceKey P) → List Price

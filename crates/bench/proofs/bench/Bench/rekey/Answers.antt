@@ -19,7 +19,7 @@ returns-clause-enqueued g c =
     let s = requeued q.records.now c.put_key.new.records w.slots w.indexes q.used in
     let p = c.args.place in
     enqueued_then q _ c.restore.new.self p c.args.key (record {
-      lender = (refl, refl, c.put_key.auto.records);
+      lender = (refl, (refl, c.put_key.auto.records));
       holds = (s p).0 c.requires;
       others = λ x u. s x;
       rekeyed = w.rekeyed;

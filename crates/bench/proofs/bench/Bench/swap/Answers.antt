@@ -10,7 +10,7 @@ returns-clause-reordered g c =
     let ss = c.exchange.new.records in
     let x = c.exchange.ensures in
     record {
-      lender = (refl, refl, c.exchange.auto.records);
+      lender = (refl, (refl, c.exchange.auto.records));
       used = refl;
       kept = x.kept;
       same = swap_same rs ss c.args.a c.args.b x q.used (linked q) c.requires.first c.requires.second;
