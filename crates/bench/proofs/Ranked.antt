@@ -1,5 +1,5 @@
 -- Places by their keys are an order with ties.
-use Rattle.std.proofs.Common.{◌≡◌, ℕ, Bool, true, false, List, map, set, Some, None, Option, sym, refl, ap, ◌∙◌}
+use Rattle.std.proofs.Common.{◌≡◌, ℕ, Bool, true, false, List, map, set, Some, None, Option, refl, ap, ◌∙◌}
 use Rattle.std.proofs.lemmas.Bool.{both_ways}
 use Rattle.std.proofs.lemmas.Cmp.{nat_cmp_total, on_total, then_total}
 use Rattle.std.proofs.lemmas.List.MinMax.{ranks_by}
@@ -43,10 +43,6 @@ module _ {K : Type 0} (before : K → ℕ → K → ℕ → Bool) where
   pub ahead_keys : (ks : List K) (p q : ℕ) (a b : K) → slice_get ks p ≡ Some a → slice_get ks q ≡ Some b → ahead before ks p q ≡ before a p b q
   unfolding ahead
   ahead_keys ks p q a b d e = λ i. sooner before (d i) p (e i) q
-
-  -- what a test of two slots finds
-  pub tested : (ks : List K) (p q x y : ℕ) (a b : K) (r : Bool) → r ≡ before a p b q → p ≡ x → q ≡ y → slice_get ks p ≡ Some a → slice_get ks q ≡ Some b → r ≡ ahead before ks x y
-  tested ks p q x y a b r t ep eq d e = t ∙ sym (ahead_keys ks p q a b d e) ∙ (λ i. ahead before ks (ep i) (eq i))
 
   -- another key for place p changes the order at p alone
   pub ahead_other : (ks ls : List K) (p x y : ℕ) (key : K) → ls ≡ set ks p key → (x ≡ p → ⊥) → (y ≡ p → ⊥) → ahead before ls x y ≡ ahead before ks x y
