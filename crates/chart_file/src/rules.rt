@@ -2,6 +2,7 @@
 ghost use Rattle.std.specs.Prelude.{◌≡◌};
 ghost use Rattle.chart_file.specs.Records.{estimate_of, floor_of, keeps_estimate, keeps_rules, lifts_ms, price_of};
 ghost use Rattle.price.specs.Kinds.{lift_value};
+ghost use Rattle.rows.specs.Rows.{is_open};
 
 use crate::records::{LinkRecord, PlaceRecord};
 use price::{Lift, Number, PriceKind};
@@ -15,11 +16,19 @@ fn open_price(lifts: u32, ms: u32) -> Lift
     }
 }
 
+impl From<PlaceRecord> for Lift {
+    ghost from_gives = { λ p r. lift_value r ≡ estimate_of p };
+
+    fn from(place: PlaceRecord) -> Lift {
+        open_price(place.lifts, place.ms)
+    }
+}
+
 impl PlaceRecord {
     pub fn estimate(self) -> Lift
         ensures { lift_value result ≡ estimate_of self }
     {
-        open_price(self.lifts, self.ms)
+        Lift::from(self)
     }
 }
 
@@ -39,6 +48,12 @@ impl LinkRecord {
         open_price(u32::from(self.price_lifts), self.price_ms)
     }
 
+    pub fn is_open(self) -> bool
+        ensures { result ≡ is_open (price_of self) }
+    {
+        self.price() != Lift::Closed
+    }
+
     // Are its ends two different places of a chart with so many, its floor and price in range?
     pub fn keeps_rules(self, places: u16) -> bool
         ensures { result ≡ keeps_rules places self }
@@ -46,8 +61,8 @@ impl LinkRecord {
         let floor = self.floor();
         let price = self.price();
         let ends = self.from < places && self.to < places && self.from != self.to;
-        let floored = Lift::zero().below(floor) && floor.fits_link();
-        let priced = price.fits_link() && !price.below(floor);
+        let floored = Lift::zero() < floor && floor.fits_link();
+        let priced = price.fits_link() && price >= floor;
         ends && floored && priced
     }
 
@@ -55,6 +70,6 @@ impl LinkRecord {
     pub fn keeps_estimate(self, from: PlaceRecord, to: PlaceRecord) -> bool
         ensures { result ≡ keeps_estimate (estimate_of from) (estimate_of to) self }
     {
-        !self.floor().plus(to.estimate()).below(from.estimate())
+        self.floor().plus(to.estimate()) >= from.estimate()
     }
 }
