@@ -1,13 +1,13 @@
 -- A file that is not refused draws a lawful chart.
 use Rattle.std.proofs.Common.{◌≡◌, ℕ, ◌+◌, ◌^◌, ◌<◌, true, List, length, get_or, None, sym, ap, ◌∙◌, subst, arith}
-use Rattle.std.proofs.lemmas.List.FromFn.{get_or-map-range_with_len, length-map-range_with_len}
 use Rattle.chart.specs.Lawful.{Lawful}
 use Rattle.chart_file.specs.Checks.{at_link, estimate_holds, goal_is_zero, in_limits, lowest_failing, records_refusal, refuse, require}
 use Rattle.chart_file.specs.File.{drawn, four_bytes, link_layout, link_record, link_records, place_layout, place_record, place_records, trailer_of}
-use Rattle.chart_file.specs.Records.{estimate_of, keeps_estimate, keeps_rules, link_in, no_link, no_place, place_in}
+use Rattle.chart_file.specs.Records.{estimate_of, keeps_estimate, keeps_rules, no_link, no_place, place_in}
+use Rattle.chart_file.specs.Rules.{Rules}
 use Rattle.chart_file.specs.declared.records.LinkRecord.{LinkRecord}
 use Rattle.chart_file.specs.declared.records.PlaceRecord.{PlaceRecord}
-use Rattle.chart_file.proofs.Lawful.{Rules, records_lawful}
+use Rattle.chart_file.proofs.Lawful.{records_lawful}
 use Rattle.chart_file.proofs.Limits.{both_none, required, unlinked, within}
 use Rattle.chart_file.proofs.Lowest.{holds_at}
 use Rattle.chart_file.proofs.Ruled.{ruled}
@@ -37,7 +37,7 @@ module _ (file : List ℕ) (bytes : (i : ℕ) → get_or file i 0 < 256) where
             let q : n < t.links = omega (arith, counted link_layout file) in
             (λ i. keeps_rules (counted place_layout file i) (found link_layout file no_link n q i)) ∙ kept n q;
         goal_zero = ap goal_is_zero (found place_layout file no_place t.goal w.goal_in) ∙ required (goal_is_zero (place_record file t.goal)) (refuse 5 None) rest.0;
-        estimates = λ n l.
+        estimated = λ n l.
             let q : n < t.links = omega (arith, counted link_layout file) in
             let law = ruled t.places (link_record file n) (kept n q) in
             ap (λ (r : LinkRecord). keeps_estimate (estimate_of (place_in (place_records file) r.from)) (estimate_of (place_in (place_records file) r.to)) r) (found link_layout file no_link n q)

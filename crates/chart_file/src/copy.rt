@@ -2,7 +2,6 @@
 ghost use Rattle.std.specs.Prelude.{◌≡◌};
 ghost use Rattle.chart_file.specs.Checks.{copied};
 
-use crate::check::check_trailer;
 use crate::frame::Frame;
 use crate::layout::Record;
 
@@ -11,11 +10,11 @@ use crate::layout::Record;
 pub fn copy_records<R: Record>(file: &[u8], memory: &mut [R])
     ensures { memory.new ≡ copied R.layout file.now memory.old }
 {
-    let Ok(trailer) = check_trailer(file) else {
+    let Ok(frame) = Frame::open(file) else {
         return;
     };
-    if usize::from(R::count(trailer)) > memory.len() {
+    if usize::from(R::count(frame.trailer)) > memory.len() {
         return;
     }
-    Frame { file, trailer }.write(memory);
+    frame.write(memory);
 }

@@ -4,7 +4,7 @@ use Rattle.chart.specs.declared.fault.ChartFault.{ChartFault}
 use Rattle.chart_file.specs.Checks.{in_limits, or_else, refuse, require, trailer_refusal}
 use Rattle.chart_file.specs.File.{is_chart, trailer_of}
 use Rattle.chart_file.specs.declared.trailer.Trailer.{Trailer}
-use Rattle.chart_file.proofs.check.check_trailer.Goals as goal
+use Rattle.chart_file.proofs.frame.Frame.open.Goals as goal
 
 -- a trailer that is there, outside the limits
 outside : (file : List ℕ) (t : Trailer) (f : ChartFault) → Ok t ≡ ok_or (cond (is_chart file) (Some (trailer_of file)) None) f →
