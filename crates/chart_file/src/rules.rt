@@ -1,10 +1,11 @@
 // What a place record and a link record mean, and the rules of a link record.
 ghost use Rattle.std.specs.Prelude.{◌≡◌};
-ghost use Rattle.chart_file.specs.Records.{estimate_of, floor_of, keeps_estimate, keeps_rules, lifts_ms, price_of};
+ghost use Rattle.chart_file.specs.Records.{end_of, estimate_of, floor_of, keeps_estimate, keeps_rules, lifts_ms, price_of};
 ghost use Rattle.price.specs.Kinds.{lift_value};
 ghost use Rattle.rows.specs.Rows.{is_open};
 
 use crate::records::{LinkRecord, PlaceRecord};
+use chart::End;
 use price::{Lift, Number, PriceKind};
 
 fn open_price(lifts: u32, ms: u32) -> Lift
@@ -33,6 +34,16 @@ impl PlaceRecord {
 }
 
 impl LinkRecord {
+    // The place at one of its ends.
+    pub fn end(self, end: End) -> u16
+        ensures { result ≡ end_of end self }
+    {
+        match end {
+            End::From => self.from,
+            End::To => self.to,
+        }
+    }
+
     pub fn floor(self) -> Lift
         ensures { lift_value result ≡ floor_of self }
     {

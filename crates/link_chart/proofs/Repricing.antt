@@ -7,9 +7,9 @@ use Rattle.chart.specs.Refusals.{Refusal, refusal_at}
 use Rattle.chart_file.specs.Records.{estimate_of, floor_of, keeps_estimate, keeps_rules, lifts_ms, link_in, link_of, no_link, place_in, price_of, records_mean}
 use Rattle.chart_file.specs.declared.records.LinkRecord.{LinkRecord}
 use Rattle.chart_file.specs.declared.records.PlaceRecord.{PlaceRecord}
-use Rattle.link_chart.specs.Ends.{table_of}
+use Rattle.link_chart.specs.Tables.{table_of}
 use Rattle.link_chart.specs.Repriced.{repriced}
-use Rattle.link_chart.specs.Rules.{Estimated, Ruled}
+use Rattle.chart_file.specs.Rules.{Estimated, Ruled}
 use Rattle.link_chart.proofs.Tables.{table_at, table_past}
 use Rattle.price.specs.Kinds.{lift_kind, lift_value}
 use Rattle.price.specs.declared.lift.Lift.{Lift}
@@ -30,7 +30,7 @@ not_both : (p : Price) (f : Price) → (less p f || not (linkable lift_kind p)) 
 not_both p f h = let q = or_parts (less p f) (not (linkable lift_kind p)) h in (q.0, not-false (linkable lift_kind p) q.1)
 
 none_test : (b : Bool) (r : Refusal) → None ≡ cond b (Some r) None → b ≡ false
-none_test true r e = let z : ◌≡◌ {A = ℕ} 0 1 = cc in absurd (omega arith)
+none_test true r e = cc
 none_test false r e = refl
 
 module _ (ls : List LinkRecord) (count n : ℕ) (room : count ≤ length ls) (p : Price)
@@ -38,7 +38,7 @@ module _ (ls : List LinkRecord) (count n : ℕ) (room : count ≤ length ls) (p 
   pub inside : n < count
   inside = ⊎_elim (λ (l : n < count). l)
       (λ (l : count ≤ n). let e = accepted ∙ ap (λ (o : Option Link). refusal_at lift_kind o n p) (table_past ls count n room l) in
-      let z : ◌≡◌ {A = ℕ} 0 1 = cc in absurd (omega arith)) (cases_lt n count)
+      cc) (cases_lt n count)
 
   pub allowed : (less p (floor_of (get_or ls n no_link)) ≡ false) × (linkable lift_kind p ≡ true)
   allowed = not_both p (floor_of (get_or ls n no_link))

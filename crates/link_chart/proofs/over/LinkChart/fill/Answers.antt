@@ -10,18 +10,10 @@ invariant_of-self c =
     let ps = c.args.self.now.places.now in
     let ls = c.args.self.now.links.now in
     let given = c.requires in
-    let R = rules_after file byte t ps _ ls _ given.passed given.accepted c.copy_places.ensures c.copy_links.ensures in
     record {
-      place_room = place_room_after file byte t ps _ ls _ given.passed given.accepted c.copy_places.ensures c.copy_links.ensures;
-      link_room = link_room_after file byte t ps _ ls _ given.passed given.accepted c.copy_places.ensures c.copy_links.ensures;
-      places_few = R.places_few;
-      start_in = R.start_in;
-      goal_in = R.goal_in;
-      links_few = R.links_few;
-      small = R.small;
-      ruled = R.ruled;
-      goal_zero = R.goal_zero;
-      estimated = R.estimates;
+      place_room = place_room_after file byte t ps _ ls _ given.passed given.accepted c.copy_records.ensures c.copy_records-2.ensures;
+      link_room = link_room_after file byte t ps _ ls _ given.passed given.accepted c.copy_records.ensures c.copy_records-2.ensures;
+      rules = rules_after file byte t ps _ ls _ given.passed given.accepted c.copy_records.ensures c.copy_records-2.ensures;
     }
 
 pub returns : goal.returns
@@ -33,8 +25,8 @@ returns c =
     let ls = c.args.self.now.links.now in
     let given = c.requires in
     record {
-      after = means_drawn file byte t ps _ ls _ given.passed given.accepted c.copy_places.ensures c.copy_links.ensures;
-      place_memory = places_after file byte t ps _ ls _ given.passed given.accepted c.copy_places.ensures c.copy_links.ensures;
-      link_memory = links_after file byte t ps _ ls _ given.passed given.accepted c.copy_places.ensures c.copy_links.ensures;
+      after = means_drawn file byte t ps _ ls _ given.passed given.accepted c.copy_records.ensures c.copy_records-2.ensures;
+      place_memory = places_after file byte t ps _ ls _ given.passed given.accepted c.copy_records.ensures c.copy_records-2.ensures;
+      link_memory = links_after file byte t ps _ ls _ given.passed given.accepted c.copy_records.ensures c.copy_records-2.ensures;
       lender = (refl, refl);
     }

@@ -4,18 +4,16 @@ use Rattle.chart_file.specs.declared.records.LinkRecord.{LinkRecord}
 use Rattle.chart_file.specs.declared.records.PlaceRecord.{PlaceRecord}
 use Rattle.link_chart.specs.Drawn.{place_records}
 use Rattle.link_chart.specs.Repriced.{repriced}
-use Rattle.link_chart.specs.Rules.{Estimated, Ruled}
+use Rattle.chart_file.specs.Rules.{Rules}
 use Rattle.link_chart.proofs.Repricing.{estimated_after, inside, length_after, priced_after, room_after, ruled_after}
 use Rattle.link_chart.proofs.over.LinkChart.reprice.Goals as goal
 use Rattle.price.specs.Kinds.{lift_value}
 use Rattle.rows.specs.Rows.{Price}
 
--- what the rules ask of the link records
-record Rest (ps : List PlaceRecord) (count : ℕ) (ls : List LinkRecord) : Type 0 where
+-- what the new link records keep
+record Rest (start goal : ℕ) (ps : List PlaceRecord) (count : ℕ) (ls : List LinkRecord) : Type 0 where
   room : count ≤ length ls
-  few : length (take count ls) ≤ 16384
-  ruled : Ruled ps (take count ls)
-  estimated : Estimated ps (take count ls)
+  rules : Rules start goal ps (take count ls)
 
 -- the memory as the code wrote it
 written : (ls : List LinkRecord) (n i j : ℕ) (p : Price) (r : LinkRecord) → i ≡ n → j ≡ n → r ≡ repriced (get_or ls i no_link) p →
@@ -46,29 +44,25 @@ invariant_of-self c =
     let v = c.args.price in
     let accepted = c.requires in
     let e = written ls n c.from.result c.from-2.result (lift_value v) c.with_price-record.result c.from.ensures c.from-2.ensures c.with_price-record.ensures in
-    let rest : Rest ps count (set ls n (repriced (get_or ls n no_link) (lift_value v))) = record {
-      room = room_after chart.start chart.goal ps ls count n chart.link_room v accepted chart.ruled;
-      few = omega (arith, length_after chart.start chart.goal ps ls count n chart.link_room v accepted chart.ruled, chart.links_few);
-      ruled = ruled_after chart.start chart.goal ps ls count n chart.link_room v accepted chart.ruled;
-      estimated = estimated_after chart.start chart.goal ps ls count n chart.link_room v accepted chart.ruled chart.estimated;
+    let rest : Rest chart.start chart.goal ps count (set ls n (repriced (get_or ls n no_link) (lift_value v))) = record {
+      room = room_after chart.start chart.goal ps ls count n chart.link_room v accepted chart.rules.ruled;
+      rules = record {
+        places_few = chart.rules.places_few;
+        start_in = chart.rules.start_in;
+        goal_in = chart.rules.goal_in;
+        links_few = omega (arith, length_after chart.start chart.goal ps ls count n chart.link_room v accepted chart.rules.ruled, chart.rules.links_few);
+        small = chart.rules.small;
+        ruled = ruled_after chart.start chart.goal ps ls count n chart.link_room v accepted chart.rules.ruled;
+        goal_zero = chart.rules.goal_zero;
+        estimated = estimated_after chart.start chart.goal ps ls count n chart.link_room v accepted chart.rules.ruled chart.rules.estimated;
+      };
     } in
-    let R = subst (Rest ps count) (sym e) rest in
-    record {
-      place_room = chart.place_room;
-      link_room = R.room;
-      places_few = chart.places_few;
-      start_in = chart.start_in;
-      goal_in = chart.goal_in;
-      links_few = R.few;
-      small = chart.small;
-      ruled = R.ruled;
-      goal_zero = chart.goal_zero;
-      estimated = R.estimated;
-    }
+    let R = subst (Rest chart.start chart.goal ps count) (sym e) rest in
+    record { place_room = chart.place_room; link_room = R.room; rules = R.rules }
 
 pub returns : goal.returns
 returns c =
     let chart = c.args.self.now in
     let e = written chart.links.now c.args.link c.from.result c.from-2.result (lift_value c.args.price) c.with_price-record.result c.from.ensures c.from-2.ensures c.with_price-record.ensures in
     ap (λ (ks : List LinkRecord). records_mean chart.start chart.goal (place_records chart) (take chart.link_count ks)) e
-    ∙ priced_after chart.start chart.goal (place_records chart) chart.links.now chart.link_count c.args.link chart.link_room c.args.price c.requires chart.ruled
+    ∙ priced_after chart.start chart.goal (place_records chart) chart.links.now chart.link_count c.args.link chart.link_room c.args.price c.requires chart.rules.ruled
