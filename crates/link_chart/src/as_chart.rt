@@ -50,7 +50,12 @@ impl<'a> Chart for LinkChart<'a> {
     }
 
     fn next_link(&self, end: End, place: u16, from: u16) -> Option<u16> {
-        (from..self.link_count).find(|n| self.leads_at(*n, end, place))
+        for n in from..self.link_count {
+            if self.leads_at(n, end, place) {
+                return Some(n);
+            }
+        }
+        None
     }
 
     fn set_price(&mut self, link: u16, price: Lift) -> Result<(), ChartFault> {
