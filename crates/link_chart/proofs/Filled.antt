@@ -20,20 +20,29 @@ module _ {A : Type 0} (l : Layout A) (file : List ℕ) (t : Trailer) (whole : t 
   same : l.count t ≡ l.count (trailer_of file)
   same = ap (λ (u : Trailer). l.count u) whole
 
-  pub filled_after : after ≡ filled l file before
+  filled_after : after ≡ filled l file before
   filled_after =
       let fits : l.count (trailer_of file) ≤ length before = omega (arith, same, room) in
       copy ∙ not_refused (or_else (trailer_refusal file) (require (leb (l.count (trailer_of file)) (length before)) (refuse 9 None)))
       (sym (λ i. or_else (trailed i) (require (le-leb (l.count (trailer_of file)) (length before) fits i) (refuse 9 None))))
       before (filled l file before)
 
-  pub front_after : take (l.count t) after ≡ records_of l file
+  front_after : take (l.count t) after ≡ records_of l file
   front_after = front l file t before after whole filled_after
 
-  pub room_after : l.count t ≤ length after
+  room_after : l.count t ≤ length after
   room_after =
       let e = ap length filled_after ∙ length-append (records_of l file) (drop (l.count (trailer_of file)) before) in
       omega (arith, e, counted l file, same)
+
+-- a chart over two memories that a file was copied into
+pub record Filled (file : List ℕ) (t : Trailer) (ps qs : List PlaceRecord) (ls ks : List LinkRecord) : Type 0 where
+  pub place_memory : qs ≡ filled place_layout file ps
+  pub link_memory : ks ≡ filled link_layout file ls
+  pub place_room : t.places ≤ length qs
+  pub link_room : t.links ≤ length ks
+  pub rules : Rules t.start t.goal (places_of t.places qs) (take t.links ks)
+  pub drawn : records_mean t.start t.goal (places_of t.places qs) (take t.links ks) ≡ drawn file
 
 module _ (file : List ℕ) (byte : (i : ℕ) → get_or file i 0 < 256) (t : Trailer)
     (ps qs : List PlaceRecord) (ls ks : List LinkRecord) (passed : Passed file (length ps) (length ls) t)
@@ -43,17 +52,11 @@ module _ (file : List ℕ) (byte : (i : ℕ) → get_or file i 0 < 256) (t : Tra
   trailed : trailer_refusal file ≡ None
   trailed = (both_none (trailer_refusal file) _ (sym accepted)).0
 
-  pub places_after : qs ≡ filled place_layout file ps
+  places_after : qs ≡ filled place_layout file ps
   places_after = filled_after place_layout file t passed.whole trailed ps qs passed.places_fit place_copy
 
-  pub links_after : ks ≡ filled link_layout file ls
+  links_after : ks ≡ filled link_layout file ls
   links_after = filled_after link_layout file t passed.whole trailed ls ks passed.links_fit link_copy
-
-  pub place_room_after : t.places ≤ length qs
-  place_room_after = room_after place_layout file t passed.whole trailed ps qs passed.places_fit place_copy
-
-  pub link_room_after : t.links ≤ length ks
-  link_room_after = room_after link_layout file t passed.whole trailed ls ks passed.links_fit link_copy
 
   places_are_drawn : places_of t.places qs ≡ place_records file
   places_are_drawn =
@@ -64,13 +67,23 @@ module _ (file : List ℕ) (byte : (i : ℕ) → get_or file i 0 < 256) (t : Tra
   links_are_drawn : take t.links ks ≡ link_records file
   links_are_drawn = front_after link_layout file t passed.whole trailed ls ks passed.links_fit link_copy
 
-  pub means_drawn : records_mean t.start t.goal (places_of t.places qs) (take t.links ks) ≡ drawn file
+  means_drawn : records_mean t.start t.goal (places_of t.places qs) (take t.links ks) ≡ drawn file
   means_drawn = λ i. records_mean (passed.whole i).start (passed.whole i).goal (places_are_drawn i) (links_are_drawn i)
 
-  pub rules_after : Rules t.start t.goal (places_of t.places qs) (take t.links ks)
+  rules_after : Rules t.start t.goal (places_of t.places qs) (take t.links ks)
   rules_after =
       let limits = sym (ap (λ (u : Trailer). in_limits u (length file)) passed.whole) ∙ passed.within in
       let drawn_rules = rules file byte limits passed.records in
       subst (λ (u : Trailer). Rules u.start u.goal (places_of t.places qs) (take t.links ks)) (sym passed.whole)
       (subst (λ (r : List LinkRecord). Rules (trailer_of file).start (trailer_of file).goal (places_of t.places qs) r) (sym links_are_drawn)
       (subst (λ (p : List PlaceRecord). Rules (trailer_of file).start (trailer_of file).goal p (link_records file)) (sym places_are_drawn) drawn_rules))
+
+  pub all_filled : Filled file t ps qs ls ks
+  all_filled = record {
+    place_memory = places_after;
+    link_memory = links_after;
+    place_room = room_after place_layout file t passed.whole trailed ps qs passed.places_fit place_copy;
+    link_room = room_after link_layout file t passed.whole trailed ls ks passed.links_fit link_copy;
+    rules = rules_after;
+    drawn = means_drawn;
+  }

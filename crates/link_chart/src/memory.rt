@@ -49,9 +49,8 @@ impl LinkChart<'_> {
         requires { None ≡ refusal (chart_of self.old) link (lift_value price) }
         ensures { chart_of self.new ≡ priced (chart_of self.old) link (lift_value price) }
     {
-        // Read and then written: the checker has no rule for lending one element of a struct with ghost fields.
-        let record = with_price(self.links[usize::from(link)], price);
-        self.links[usize::from(link)] = record;
+        let n = usize::from(link);
+        self.links[n] = with_price(self.links[n], price);
     }
 
     // Fills the memory from a file that passed every check.
