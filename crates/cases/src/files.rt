@@ -15,7 +15,7 @@ pub const CHART: [u8; 90] = [
 // Bytes to write over the chart, and what it is then refused by.
 #[derive(Clone, Copy)]
 struct Damage {
-    writes: [(usize, u8); 2],
+    writes: &'static [(usize, u8)],
     cause: Cause,
     link: Option<u16>,
 }
@@ -45,7 +45,7 @@ const BACK: usize = 82;
 
 const LETTERS: usize = 86;
 
-const fn damaging(writes: [(usize, u8); 2], cause: Cause, link: Option<u16>) -> Damage {
+const fn damaging(writes: &'static [(usize, u8)], cause: Cause, link: Option<u16>) -> Damage {
     Damage {
         writes,
         cause,
@@ -56,54 +56,46 @@ const fn damaging(writes: [(usize, u8); 2], cause: Cause, link: Option<u16>) -> 
 fn damages() -> [Damage; 27] {
     [
         // 1
-        damaging([(LETTERS, b'l'), (LETTERS, b'l')], Cause::NotAChart, None),
-        damaging([(LETTERS + 3, 0), (PLACES, 0)], Cause::NotAChart, None),
+        damaging(&[(LETTERS, b'l')], Cause::NotAChart, None),
+        damaging(&[(LETTERS + 3, 0), (PLACES, 0)], Cause::NotAChart, None),
         // 2
-        damaging([(PLACES, 0), (PLACES, 0)], Cause::OutsideLimits, None),
-        damaging([(PLACES, 1), (PLACES + 1, 16)], Cause::OutsideLimits, None),
-        damaging([(LINKS, 1), (LINKS + 1, 64)], Cause::OutsideLimits, None),
-        damaging([(START, 3), (START, 3)], Cause::OutsideLimits, None),
-        damaging([(GOAL, 3), (GOAL, 3)], Cause::OutsideLimits, None),
-        damaging([(BACK, 89), (BACK, 89)], Cause::OutsideLimits, None),
-        damaging([(PLACES, 4), (BACK, 96)], Cause::OutsideLimits, None),
-        damaging([(START, 3), (LINK_0, 9)], Cause::OutsideLimits, None),
+        damaging(&[(PLACES, 0)], Cause::OutsideLimits, None),
+        damaging(&[(PLACES, 1), (PLACES + 1, 16)], Cause::OutsideLimits, None),
+        damaging(&[(LINKS, 1), (LINKS + 1, 64)], Cause::OutsideLimits, None),
+        damaging(&[(START, 3)], Cause::OutsideLimits, None),
+        damaging(&[(GOAL, 3)], Cause::OutsideLimits, None),
+        damaging(&[(BACK, 89)], Cause::OutsideLimits, None),
+        damaging(&[(PLACES, 4), (BACK, 96)], Cause::OutsideLimits, None),
+        damaging(&[(START, 3), (LINK_0, 9)], Cause::OutsideLimits, None),
         // 4: ends
-        damaging([(LINK_1, 3), (LINK_1, 3)], Cause::BadLink, Some(1)),
-        damaging([(LINK_1 + 2, 3), (LINK_1 + 2, 3)], Cause::BadLink, Some(1)),
-        damaging([(LINK_1, 2), (LINK_1, 2)], Cause::BadLink, Some(1)),
-        damaging([(LINK_2 + 1, 1), (LINK_2 + 1, 1)], Cause::BadLink, Some(2)),
+        damaging(&[(LINK_1, 3)], Cause::BadLink, Some(1)),
+        damaging(&[(LINK_1 + 2, 3)], Cause::BadLink, Some(1)),
+        damaging(&[(LINK_1, 2)], Cause::BadLink, Some(1)),
+        damaging(&[(LINK_2 + 1, 1)], Cause::BadLink, Some(2)),
         // 4: floor and price
-        damaging([(LINK_0 + 8, 0), (LINK_0 + 8, 0)], Cause::BadLink, Some(0)),
-        damaging([(LINK_0 + 5, 1), (LINK_0 + 7, 1)], Cause::BadLink, Some(0)),
-        damaging([(LINK_0 + 7, 1), (LINK_0 + 7, 1)], Cause::BadLink, Some(0)),
+        damaging(&[(LINK_0 + 8, 0)], Cause::BadLink, Some(0)),
+        damaging(&[(LINK_0 + 5, 1), (LINK_0 + 7, 1)], Cause::BadLink, Some(0)),
+        damaging(&[(LINK_0 + 7, 1)], Cause::BadLink, Some(0)),
         damaging(
-            [(LINK_0 + 10, 16), (LINK_0 + 14, 17)],
+            &[(LINK_0 + 10, 16), (LINK_0 + 14, 17)],
             Cause::BadLink,
             Some(0),
         ),
-        damaging(
-            [(LINK_0 + 14, 16), (LINK_0 + 14, 16)],
-            Cause::BadLink,
-            Some(0),
-        ),
-        damaging([(LINK_0 + 8, 5), (LINK_0 + 8, 5)], Cause::BadLink, Some(0)),
+        damaging(&[(LINK_0 + 14, 16)], Cause::BadLink, Some(0)),
+        damaging(&[(LINK_0 + 8, 5)], Cause::BadLink, Some(0)),
         // 4: the lowest, and before 5
-        damaging([(LINK_2, 2), (LINK_0, 1)], Cause::BadLink, Some(0)),
-        damaging([(LINK_2, 2), (GOAL_LIFTS, 1)], Cause::BadLink, Some(2)),
-        damaging([(LINK_2, 2), (PLACE_0_MS, 2)], Cause::BadLink, Some(2)),
+        damaging(&[(LINK_2, 2), (LINK_0, 1)], Cause::BadLink, Some(0)),
+        damaging(&[(LINK_2, 2), (GOAL_LIFTS, 1)], Cause::BadLink, Some(2)),
+        damaging(&[(LINK_2, 2), (PLACE_0_MS, 2)], Cause::BadLink, Some(2)),
         // 5
-        damaging([(GOAL_LIFTS, 1), (GOAL_LIFTS, 1)], Cause::BadEstimate, None),
+        damaging(&[(GOAL_LIFTS, 1)], Cause::BadEstimate, None),
+        damaging(&[(PLACE_0_MS, 2)], Cause::BadEstimate, Some(0)),
+        damaging(&[(PLACE_1_MS, 9)], Cause::BadEstimate, Some(1)),
         damaging(
-            [(PLACE_0_MS, 2), (PLACE_0_MS, 2)],
+            &[(PLACE_1_MS, 9), (GOAL_LIFTS, 1)],
             Cause::BadEstimate,
-            Some(0),
+            None,
         ),
-        damaging(
-            [(PLACE_1_MS, 9), (PLACE_1_MS, 9)],
-            Cause::BadEstimate,
-            Some(1),
-        ),
-        damaging([(PLACE_1_MS, 9), (GOAL_LIFTS, 1)], Cause::BadEstimate, None),
     ]
 }
 
@@ -118,23 +110,21 @@ const LINK: LinkRecord = LinkRecord {
     price_ms: 76,
 };
 
-fn written(mut file: [u8; 90], at: usize, byte: u8) -> [u8; 90] {
-    if at < 90 {
-        file[at] = byte;
+// The chart with these bytes written over it.
+fn damaged(writes: &[(usize, u8)]) -> [u8; 90] {
+    let mut file = CHART;
+    for (at, byte) in writes {
+        if let Some(place) = file.get_mut(*at) {
+            *place = *byte;
+        }
     }
     file
 }
 
-fn damaged(writes: [(usize, u8); 2]) -> [u8; 90] {
-    let [(a, x), (b, y)] = writes;
-    written(written(CHART, a, x), b, y)
-}
-
 fn fault(cause: Cause, link: Option<u16>) -> ChartFault {
     ChartFault {
-        cause,
         link,
-        height: 0,
+        ..ChartFault::of_chart(cause)
     }
 }
 
@@ -209,7 +199,7 @@ fn short_memory_comes_after_limits_and_before_records(rt: HostRuntime) -> Result
     assert_eq!(rt;
         refusal(
             &rt,
-            &damaged([(LINK_1, 3), (GOAL_LIFTS, 1)]),
+            &damaged(&[(LINK_1, 3), (GOAL_LIFTS, 1)]),
             &mut places,
             &mut links,
         )?,
@@ -218,7 +208,7 @@ fn short_memory_comes_after_limits_and_before_records(rt: HostRuntime) -> Result
     assert_eq!(rt;
         refusal(
             &rt,
-            &damaged([(START, 3), (GOAL, 3)]),
+            &damaged(&[(START, 3), (GOAL, 3)]),
             &mut places,
             &mut links
         )?,
@@ -248,7 +238,7 @@ fn a_good_file_fills_the_first_records(rt: HostRuntime) -> Result<(), Fail> {
             back: 88,
         }
     );
-    let zero = PlaceRecord { lifts: 0, ms: 0 };
+    let zero = PlaceRecord::default();
     assert_eq!(rt; places, [zero, zero, zero, PLACE, PLACE]);
     assert_eq!(rt;
         links[1],
@@ -269,7 +259,7 @@ fn a_good_file_fills_the_first_records(rt: HostRuntime) -> Result<(), Fail> {
 fn a_closed_link_and_a_file_without_remarks_are_good(rt: HostRuntime) {
     let mut places = [PLACE; 3];
     let mut links = [LINK; 3];
-    let closed = damaged([(LINK_0 + 12, 0), (LINK_0 + 12, 0)]);
+    let closed = damaged(&[(LINK_0 + 12, 0)]);
     assert!(rt; read_chart(&closed[2..90], &mut places, &mut links).is_ok());
     assert_eq!(rt; links[0].price_ms, 0);
 }

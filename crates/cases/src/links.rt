@@ -1,6 +1,6 @@
 // The link chart: asked everything, priced, and asked outside its tables.
 use crate::files::CHART;
-use chart::{Cause, Chart, ChartFault};
+use chart::{Cause, Chart, ChartFault, End};
 use chart_file::{LinkRecord, PlaceRecord};
 use link_chart::LinkChart;
 use price::{Lift, PriceKind};
@@ -19,14 +19,6 @@ pub const LINK: LinkRecord = LinkRecord {
 
 pub fn ms(n: u64) -> Lift {
     Lift::from_numbers(&[0, n]).unwrap_or(Lift::Closed)
-}
-
-fn refused(cause: Cause, link: u16) -> Result<(), ChartFault> {
-    Err(ChartFault {
-        cause,
-        link: Some(link),
-        height: 0,
-    })
 }
 
 #[test]
@@ -52,9 +44,7 @@ fn a_chart_answers_what_its_file_says(rt: HostRuntime) -> Result<(), Fail> {
     assert_eq!(rt; chart.goal(), 2);
     assert_eq!(rt; chart.height(), 0);
     assert_eq!(rt; chart.link_numbers(), 3);
-    let Some(link) = chart.link(1) else {
-        return Err(Fail::new("there is a link 1"));
-    };
+    let link = chart.link(1).ok_or_else(|| Fail::new("there is a link 1"))?;
     assert_eq!(rt; link.from, 1);
     assert_eq!(rt; link.to, 2);
     assert_eq!(rt; link.floor, ms(1));
@@ -69,15 +59,15 @@ fn the_links_of_a_place_come_in_rising_order(rt: HostRuntime) -> Result<(), Fail
     let mut links = [LINK; 3];
     let mut chart = LinkChart::over(&mut places, &mut links);
     chart.read(&CHART)?;
-    assert_eq!(rt; chart.nth_into(2, 0), Some(1));
-    assert_eq!(rt; chart.nth_into(2, 1), Some(2));
-    assert_eq!(rt; chart.nth_into(2, 2), None);
-    assert_eq!(rt; chart.nth_out(0, 0), Some(0));
-    assert_eq!(rt; chart.nth_out(0, 1), Some(2));
-    assert_eq!(rt; chart.next_into(2, 2), Some(2));
-    assert_eq!(rt; chart.next_into(2, 3), None);
-    assert_eq!(rt; chart.next_out(0, 1), Some(2));
-    assert_eq!(rt; chart.next_out(9, 0), None);
+    assert_eq!(rt; chart.nth_link(End::To, 2, 0), Some(1));
+    assert_eq!(rt; chart.nth_link(End::To, 2, 1), Some(2));
+    assert_eq!(rt; chart.nth_link(End::To, 2, 2), None);
+    assert_eq!(rt; chart.nth_link(End::From, 0, 0), Some(0));
+    assert_eq!(rt; chart.nth_link(End::From, 0, 1), Some(2));
+    assert_eq!(rt; chart.next_link(End::To, 2, 2), Some(2));
+    assert_eq!(rt; chart.next_link(End::To, 2, 3), None);
+    assert_eq!(rt; chart.next_link(End::From, 0, 1), Some(2));
+    assert_eq!(rt; chart.next_link(End::From, 9, 0), None);
     Ok(())
 }
 
@@ -90,7 +80,7 @@ fn outside_its_tables_a_chart_answers_none(rt: HostRuntime) -> Result<(), Fail> 
     assert!(rt; chart.link(3).is_none());
     assert!(rt; chart.link(65535).is_none());
     assert_eq!(rt; chart.estimate(3), None);
-    assert_eq!(rt; chart.nth_into(3, 0), None);
+    assert_eq!(rt; chart.nth_link(End::To, 3, 0), None);
     assert_eq!(rt; chart.largest(2), None);
     Ok(())
 }
@@ -101,16 +91,20 @@ fn prices_are_set_or_refused(rt: HostRuntime) -> Result<(), Fail> {
     let mut links = [LINK; 3];
     let mut chart = LinkChart::over(&mut places, &mut links);
     chart.read(&CHART)?;
-    assert_eq!(rt; chart.set_price(3, ms(4)), refused(Cause::NoLink, 3));
-    assert_eq!(rt; chart.set_price(1, ms(0)), refused(Cause::BadPrice, 1));
+    assert_eq!(rt;
+        chart.set_price(3, ms(4)),
+        Err(ChartFault::at_link(Cause::NoLink, 3))
+    );
+    assert_eq!(rt;
+        chart.set_price(1, ms(0)),
+        Err(ChartFault::at_link(Cause::BadPrice, 1))
+    );
     assert_eq!(rt;
         chart.set_price(1, ms(1_000_001)),
-        refused(Cause::BadPrice, 1)
+        Err(ChartFault::at_link(Cause::BadPrice, 1))
     );
     assert_eq!(rt; chart.set_price(1, Lift::Closed), Ok(()));
-    let Some(link) = chart.link(1) else {
-        return Err(Fail::new("there is a link 1"));
-    };
+    let link = chart.link(1).ok_or_else(|| Fail::new("there is a link 1"))?;
     assert_eq!(rt; link.price, Lift::Closed);
     assert_eq!(rt; chart.set_price(1, ms(1)), Ok(()));
     Ok(())

@@ -18,7 +18,7 @@ impl fmt::Display for Report {
             open_links,
             start,
             goal,
-        } = *self;
+        } = self;
         write!(
             f,
             "places {places} links {links} open {open_links} start {start} goal {goal}"

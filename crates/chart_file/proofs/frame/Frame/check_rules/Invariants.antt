@@ -1,7 +1,7 @@
 use Rattle.std.proofs.Common.{◌≡◌, ℕ, ◌<◌, true}
 use Rattle.chart_file.specs.File.{link_record}
 use Rattle.chart_file.specs.Records.{keeps_rules}
-use Rattle.chart_file.proofs.frame.Frame.bad_link.Given as goal
+use Rattle.chart_file.proofs.frame.Frame.check_rules.Given as goal
 
 -- the links so far hold
 abbrev pub invariant-loop-n : goal.invariant-loop-n

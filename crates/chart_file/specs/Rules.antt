@@ -1,13 +1,9 @@
--- The records of a link chart, and the rules that they keep.
-use Rattle.std.specs.Prelude.{◌≡◌, ℕ, ◌^◌, ◌<◌, true, cond, List, [], ◌∷◌, length, take, ◌==◌}
-use Rattle.chart.specs.Meaning.{Meaning}
-use Rattle.chart_file.specs.Records.{estimate_of, keeps_estimate, keeps_rules, link_in, no_place, place_in, records_mean}
+-- The rules that the records of a whole chart keep.
+use Rattle.std.specs.Prelude.{◌≡◌, ℕ, ◌^◌, ◌<◌, ◌≤◌, true, List, length}
+use Rattle.chart_file.specs.Checks.{goal_is_zero}
+use Rattle.chart_file.specs.Records.{estimate_of, keeps_estimate, keeps_rules, link_in, place_in}
 use Rattle.chart_file.specs.declared.records.LinkRecord.{LinkRecord}
 use Rattle.chart_file.specs.declared.records.PlaceRecord.{PlaceRecord}
-
--- the places of the chart: the first records of the memory; a chart that no file was read into has one place
-abbrev pub places_of : ℕ → List PlaceRecord → List PlaceRecord
-places_of count ps = cond (count == 0) (no_place ∷ []) (take count ps)
 
 -- each number of an estimate has 32 bits
 abbrev pub Small : List PlaceRecord → Type 0
@@ -22,6 +18,13 @@ abbrev pub Estimated : List PlaceRecord → List LinkRecord → Type 0
 Estimated ps ls = (n : ℕ) → n < length ls →
     keeps_estimate (estimate_of (place_in ps (link_in ls n).from)) (estimate_of (place_in ps (link_in ls n).to)) (link_in ls n) ≡ true
 
--- one place, which is start and goal, and no links
-abbrev pub one_place : Meaning
-one_place = records_mean 0 0 (no_place ∷ []) []
+-- records that are a lawful chart with this start and goal
+pub record Rules (start goal : ℕ) (ps : List PlaceRecord) (ls : List LinkRecord) : Type 0 where
+  pub places_few : length ps ≤ 4096
+  pub start_in : start < length ps
+  pub goal_in : goal < length ps
+  pub links_few : length ls ≤ 16384
+  pub small : Small ps
+  pub ruled : Ruled ps ls
+  pub goal_zero : goal_is_zero (place_in ps goal) ≡ true
+  pub estimated : Estimated ps ls
