@@ -42,6 +42,7 @@ impl<'a, P: PriceKind> Bench<'a, P> {
         if at >= self.records.len() {
             return false;
         }
+        // by index: of what get_mut lends out of a struct with an invariant the check knows too little
         self.records[at].standing = standing;
         true
     }
@@ -62,6 +63,7 @@ impl<'a, P: PriceKind> Bench<'a, P> {
         if at >= self.records.len() {
             return false;
         }
+        // by index, as above; one method for both fields would need a closure, and say less plainly which is written
         self.records[at].lookahead = lookahead;
         true
     }
