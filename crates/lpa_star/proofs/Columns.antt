@@ -7,6 +7,7 @@ use Rattle.std.specs.List.{slice_get}
 use Rattle.std.specs.Option.{option_map}
 use Rattle.rows.specs.Rows.{Price}
 use Rattle.bench.specs.declared.bench.Bench.{Bench}
+use Rattle.bench.specs.declared.key.Key.{Key as PriceKey}
 use Rattle.bench.specs.Contents.{keys, lookaheads, room, standings}
 
 nth_value : {X : Type 0} (xs : List X) (i : ℕ) (d : X) → unwrap_or (slice_get xs i) d ≡ get_or xs i d
@@ -24,7 +25,7 @@ pub read_or : {P X : Type 0} (v : P → X) (o : Option P) (d : P) (xs : List X) 
 read_or v None d xs i e h c = c ∙ read xs i e None h
 read_or v (Some x) d xs i e h c = read xs i e (Some (v x)) h
 
-module _ {P : Type 0} (v : P → Price) (b : Bench P) where
+module _ {P : Type 0} (v : P → Price) (b : Bench P (PriceKey P)) where
   pub standings_long : length (standings v b) ≡ room b
   standings_long = length-map b.records.now _
 

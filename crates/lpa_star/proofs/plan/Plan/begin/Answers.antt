@@ -23,7 +23,7 @@ returns-clause-current g c = λ lr.
     begun m (memory v b) (memory v d) (standings v a) (lookaheads v a) p law e.standings e.lookaheads e.queue e.order ep
     (record {
       standings = h.standings;
-      right = right (subst (λ q. q < places m) (sym ep) law.start_in) (subst (λ r. places m ≤ r) (sym e.sources.2.2) lr);
+      right = right (subst (λ q. q < places m) (sym ep) law.start_in) (subst (λ r. places m ≤ r) (sym e.sources.2.1.1) lr);
       others = h.others;
       order = h.order;
     })

@@ -65,7 +65,7 @@ returns-then-is_none-clause-standings g c = λ lr z.
     let taken : UpToDate m b → c.take_step.result ≡ next m b.standings =
     subst (λ x. UpToDate (g.C.Chart.meaning x.now) b → c.take_step.result ≡ next (g.C.Chart.meaning x.now) b.standings) l.invariant.0.0 e.taken in
     let none = none_of_some c.take_step.result c.if-is_none.ensures in
-    let wide : places m ≤ room l.self.bench.now = subst (λ r. places m ≤ r) (sym l.invariant.0.2.2) lr in
+    let wide : places m ≤ room l.self.bench.now = subst (λ r. places m ≤ r) (sym l.invariant.0.2.1.1) lr in
     let stays : places m ≤ room l.self.bench.now → UpToDate m b → standings v c.take_step.new.self.bench.now ≡ after_step m b.standings c.take_step.result =
     subst (λ x. places (g.C.Chart.meaning x.now) ≤ room l.self.bench.now → UpToDate (g.C.Chart.meaning x.now) b → standings v c.take_step.new.self.bench.now ≡ after_step (g.C.Chart.meaning x.now) b.standings c.take_step.result) l.invariant.0.0 e.standings in
     stays wide h.current ∙ ap (after_step m b.standings) none
@@ -137,12 +137,12 @@ loop-steps-preserved g c =
     subst (λ x. places (g.C.Chart.meaning x.now) ≤ room l.self.bench.now → UpToDate (g.C.Chart.meaning x.now) b → d.standings ≡ after_step (g.C.Chart.meaning x.now) b.standings o) inv.0.0 e.standings in
     let current : places m ≤ room l.self.bench.now → UpToDate m b → UpToDate m d =
     subst (λ x. places (g.C.Chart.meaning x.now) ≤ room l.self.bench.now → UpToDate (g.C.Chart.meaning x.now) b → UpToDate (g.C.Chart.meaning x.now) d) inv.0.0 e.current in (
-      (e.sources.0 ∙ inv.0.0, e.sources.1 ∙ inv.0.1, (e.sources.2.0 ∙ inv.0.2.0, e.sources.2.1 ∙ inv.0.2.1, e.sources.2.2 ∙ inv.0.2.2)),
+      (e.sources.0 ∙ inv.0.0, e.sources.1 ∙ inv.0.1, (e.sources.2.0 ∙ inv.0.2.0, (e.sources.2.1.0 ∙ inv.0.2.1.0, e.sources.2.1.1 ∙ inv.0.2.1.1))),
       c.step_limit-limit.ensures,
       omega arith,
       λ lr z.
           let h = inv.3 lr z in
-          let wide : places m ≤ room l.self.bench.now = subst (λ r. places m ≤ r) (sym inv.0.2.2) lr in
+          let wide : places m ≤ room l.self.bench.now = subst (λ r. places m ≤ r) (sym inv.0.2.1.1) lr in
           done_on m (memory v c.args.self.now.bench.now) b l.steps h d o c.if-is_none.ensures t (sym (asked h.current) ∙ c.if-is_settled.false) (sym (taken h.current))
           (stays wide h.current) (current wide h.current),
       keeps_then (places m) c.args.self.now.bench.now l.self.bench.now c.take_step.new.self.bench.now inv.4

@@ -33,10 +33,10 @@ loop-number-preserved-in-Some-link g c =
     subst (λ x. p < places (g.C.Chart.meaning x.now) → places (g.C.Chart.meaning x.now) ≤ room b → RightAt (g.C.Chart.meaning x.now) (memory v d) p) inv.2.0 e.right in (
       n + 1,
       next.1,
-      (e.sources.0 ∙ inv.2.0, e.sources.1 ∙ inv.2.1, (e.sources.2.0 ∙ inv.2.2.0, e.sources.2.1 ∙ inv.2.2.1, e.sources.2.2 ∙ inv.2.2.2)),
+      (e.sources.0 ∙ inv.2.0, e.sources.1 ∙ inv.2.1, (e.sources.2.0 ∙ inv.2.2.0, (e.sources.2.1.0 ∙ inv.2.2.1.0, e.sources.2.1.1 ∙ inv.2.2.1.1))),
       e.standings ∙ inv.3,
       λ lu lr z. one_less m u (memory v b) (memory v d) p
-          (record { standings = e.standings; right = right (inside lu) (subst (λ r. places m ≤ r) (sym inv.2.2.2) lr); others = e.others; order = e.order })
+          (record { standings = e.standings; right = right (inside lu) (subst (λ r. places m ≤ r) (sym inv.2.2.1.1) lr); others = e.others; order = e.order })
           (inside lu) inv.0 n next.0 ep (inv.4 lu lr z),
       λ lu. keeps_then (places m) a b d (inv.5 lu) (e.past (places m) (inside lu)),
     )
@@ -62,5 +62,5 @@ returns-clause-current g c = λ lu lr z.
     let right : u < places m → places m ≤ room b → RightAt m (memory v d) u =
     subst (λ x. u < places (g.C.Chart.meaning x.now) → places (g.C.Chart.meaning x.now) ≤ room b → RightAt (g.C.Chart.meaning x.now) (memory v d) u) inv.2.0 e.right in
     none_less m u (memory v b) (memory v d) u
-    (record { standings = e.standings; right = right lu (subst (λ r. places m ≤ r) (sym inv.2.2.2) lr); others = e.others; order = e.order }) lu inv.0
+    (record { standings = e.standings; right = right lu (subst (λ r. places m ≤ r) (sym inv.2.2.1.1) lr); others = e.others; order = e.order }) lu inv.0
     (none_of (leads_out u) m.links refl inv.0 (sym inv.1 ∙ c.in-None.ensures.steps.0)) refl (inv.4 lu lr z)
