@@ -2,7 +2,7 @@
 use crate::fault::Fault;
 
 // Where a planner stands between two turns.
-#[derive(Clone, Copy)]
+#[derive(Clone, Copy, PartialEq, Eq, Debug)]
 pub enum Stage {
     // no plan is under way
     Idle,
