@@ -15,7 +15,8 @@ fn bytes_at<const N: usize>(file: &[u8], at: usize) -> [u8; N]
     *file[at..].first_chunk().unwrap()
 }
 
-// A record of a chart file: each type has a table of its own, one record after another.
+// A record of a chart file: each type has a table of its own, one record after another. The trait is not exported: there
+// are two such types, and `read` trusts its caller.
 pub trait Record: Copy {
     ghost SIZE: { ℕ };
 

@@ -4,7 +4,7 @@
 pub mod check;
 pub mod copy;
 mod frame;
-pub mod layout;
+mod layout;
 pub mod read;
 pub mod records;
 pub mod rules;
@@ -12,7 +12,6 @@ pub mod trailer;
 
 pub use check::check_file;
 pub use copy::copy_records;
-pub use layout::Record;
 pub use read::read_chart;
 pub use records::{LinkRecord, PlaceRecord};
 pub use trailer::Trailer;
