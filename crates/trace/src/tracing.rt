@@ -45,9 +45,7 @@ impl<C: Chart> Trail<'_, '_, '_, C> {
         ensures { out.new ≡ written (way_back (C.Chart.meaning self.now.chart.now) (standings C.Price.PriceKind.value self.now.bench.now)) out.old }
     {
         let mut place = self.chart.goal();
-        let mut left = count;
-        while left > 1 {
-            left -= 1;
+        for left in (1..count).rev() {
             out[left] = place;
             match self.place_before(place) {
                 None => return,

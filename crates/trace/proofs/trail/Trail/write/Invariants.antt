@@ -10,6 +10,3 @@ invariant-loop-left g l =
     let m = g.C.Chart.meaning l.self.chart.now in
     let gs = standings g.C.Price.PriceKind.value l.self.bench.now in
     (l.left ≤ length l.initial.out) × Left m gs l.place l.left l.out (written (way_back m gs) l.initial.out)
-
-abbrev pub decreases-loop-left : goal.decreases-loop-left
-decreases-loop-left g l = l.left - 1
