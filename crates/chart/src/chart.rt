@@ -46,7 +46,8 @@ pub trait Chart {
     fn estimate(&self, place: u16) -> Option<Self::Price>
         ensures { option_map Self.Price.PriceKind.value result ≡ slice_get (meaning self.now).estimates place };
 
-    // The n-th number of the links with this end at a place, in rising order, n from 0.
+    // The n-th number of the links with this end at a place, in rising order, n from 0. `LinksAt` would say it shorter, but
+    // a body of the trait cannot pass `Self` where a chart with all laws is asked.
     fn nth_link(&self, end: End, place: u16, n: u16) -> Option<u16>
         ensures { result ≡ slice_get (numbers_at end (meaning self.now) place) n }
     {

@@ -19,7 +19,8 @@ pub fn standing_of<P: PriceKind>(bench: &Bench<P>, place: u16) -> P
 }
 
 impl<C: Chart> Plan<'_, '_, '_, C> {
-    // The lookahead that is kept of a place; closed outside the memory.
+    // The lookahead that is kept of a place; closed outside the memory. Beside `standing_of` it is one line, and a shared
+    // function would be told by a closure which column to read.
     pub(crate) fn kept_lookahead(&self, place: u16) -> C::Price
         ensures { C.Price.PriceKind.value result ≡ slice_index_or (lookaheads C.Price.PriceKind.value self.now.bench.now) place closed }
     {

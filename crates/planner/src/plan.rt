@@ -101,6 +101,7 @@ impl<C: Chart> Planner<C> {
     }
 }
 
+// Each is told by its public call whether it is its ticket's turn, so that a wrong turn is refused where it is asked for.
 impl<C: Chart> Planner<C> {
     pub(crate) fn begin_if(
         &mut self,

@@ -7,6 +7,8 @@ use crate::kind::PriceKind;
 use crate::number::Number;
 
 // Closed is above every open price, so it stands last: the derived order is that of prices. `Option` has it the other way round.
+// Time and lift prices are two types: as one type of N numbers they would lose the names of these, and each call of the
+// library with an array of N owes that N times 8 is below 2^63, which no public call may ask.
 #[derive(Clone, Copy, PartialEq, Eq, PartialOrd, Ord, Debug)]
 pub enum Time {
     Open { ms: Number },

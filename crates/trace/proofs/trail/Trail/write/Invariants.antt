@@ -1,4 +1,4 @@
-use Rattle.std.proofs.Common.{◌-◌, ◌≤◌, length}
+use Rattle.std.proofs.Common.{◌≤◌, length}
 use Rattle.bench.specs.Contents.{standings}
 use Rattle.trace.specs.Answers.{written}
 use Rattle.trace.specs.Moves.{way_back}
