@@ -48,11 +48,10 @@ fn remove_fifths<P: PriceKind>(rt: &impl Abort, bench: &mut Bench<P>, count: u16
 
 // Takes out what is left, by the top: keys rise, and of equal keys the numbers. Answers how many there were.
 fn drain<P: PriceKind>(rt: &impl Abort, bench: &mut Bench<P>, count: u16) -> Result<usize, Fail> {
-    let mut taken: usize = 0;
     let mut last: Option<(u64, u16)> = None;
-    for _ in 0..count {
+    for taken in 0..count {
         let Some(place) = bench.top() else {
-            return Ok(taken);
+            return Ok(usize::from(taken));
         };
         assert!(rt; place % 5 != 0);
         if let Some((number, before)) = last {
@@ -61,9 +60,8 @@ fn drain<P: PriceKind>(rt: &impl Abort, bench: &mut Bench<P>, count: u16) -> Res
         }
         last = Some((key_number(place), place));
         assert!(rt; bench.dequeue(place));
-        taken = taken.saturating_add(1);
     }
-    Ok(taken)
+    Ok(usize::from(count))
 }
 
 fn come_out_in_order<P: PriceKind>(rt: &impl Abort, heap: Global, count: u16) -> Result<(), Fail> {

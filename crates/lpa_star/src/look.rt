@@ -4,6 +4,7 @@ ghost use Rattle.rows.specs.Rows.{closed};
 ghost use Rattle.chart.specs.Meaning.{link_at};
 ghost use Rattle.bench.specs.Contents.{lookaheads, standings};
 ghost use Rattle.bench.specs.Keys.{key_of};
+ghost use Rattle.std.specs.Option.{option_map};
 ghost use Rattle.lifelong.specs.Standings.{key_for, lookahead, standing_at, through};
 
 use crate::plan::Plan;
@@ -16,6 +17,13 @@ pub fn standing_of<P: PriceKind>(bench: &Bench<P>, place: u16) -> P
     ensures { P.PriceKind.value result ≡ standing_at (standings P.PriceKind.value bench.now) place }
 {
     bench.standing(place).unwrap_or(P::closed())
+}
+
+// The place that a link leads to, if the number names one.
+pub(crate) fn led_to<C: Chart>(chart: &C, number: u16) -> Option<u16>
+    ensures { result ≡ option_map (λ l. l.to) (link_at (C.Chart.meaning chart.now) number) }
+{
+    chart.link(number).map(|link| link.to)
 }
 
 impl<C: Chart> Plan<'_, '_, '_, C> {

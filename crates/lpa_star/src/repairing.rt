@@ -10,7 +10,7 @@ ghost use Rattle.lpa_star.specs.Memory.{memory};
 ghost use Rattle.lpa_star.specs.Plans.{SameSources};
 ghost use Rattle.lpa_star.specs.Outcomes.{steps_of};
 ghost use Rattle.lpa_star.specs.Past.{KeepsPast};
-ghost use Rattle.lpa_star.specs.UpToDate.{UpToDate};
+ghost use Rattle.lpa_star.specs.UpToDate.{UpToDate, WhereCurrent};
 ghost use Rattle.lpa_star.specs.Steps.{after_step};
 
 use crate::look::standing_of;
@@ -25,7 +25,7 @@ pub struct Unsettled {
     pub steps: u16,
 }
 
-// Is the one key no smaller than the other?
+// Is the one key no smaller than the other? What `>=` of keys means to a repair stands in this contract.
 fn at_least<P: PriceKind>(key: Key<P>, other: Key<P>) -> bool
     ensures { result ≡ not (key_less (key_of P.PriceKind.value key) (key_of P.PriceKind.value other)) }
 {
@@ -38,8 +38,8 @@ impl<C: Chart> Plan<'_, '_, '_, C> {
     fn take_step(&mut self) -> Option<u16>
         ensures sources { SameSources self.old self.new }
         ensures taken { UpToDate (C.Chart.meaning self.old.chart.now) (memory C.Price.PriceKind.value self.old.bench.now) → result ≡ next (C.Chart.meaning self.old.chart.now) (standings C.Price.PriceKind.value self.old.bench.now) }
-        ensures standings { places (C.Chart.meaning self.old.chart.now) ≤ room self.old.bench.now → UpToDate (C.Chart.meaning self.old.chart.now) (memory C.Price.PriceKind.value self.old.bench.now) → standings C.Price.PriceKind.value self.new.bench.now ≡ after_step (C.Chart.meaning self.old.chart.now) (standings C.Price.PriceKind.value self.old.bench.now) result }
-        ensures current { places (C.Chart.meaning self.old.chart.now) ≤ room self.old.bench.now → UpToDate (C.Chart.meaning self.old.chart.now) (memory C.Price.PriceKind.value self.old.bench.now) → UpToDate (C.Chart.meaning self.old.chart.now) (memory C.Price.PriceKind.value self.new.bench.now) }
+        ensures standings { WhereCurrent C.Price.PriceKind.value (C.Chart.meaning self.old.chart.now) self.old.bench.now (standings C.Price.PriceKind.value self.new.bench.now ≡ after_step (C.Chart.meaning self.old.chart.now) (standings C.Price.PriceKind.value self.old.bench.now) result) }
+        ensures current { WhereCurrent C.Price.PriceKind.value (C.Chart.meaning self.old.chart.now) self.old.bench.now (UpToDate (C.Chart.meaning self.old.chart.now) (memory C.Price.PriceKind.value self.new.bench.now)) }
         ensures past { KeepsPast (places (C.Chart.meaning self.old.chart.now)) self.old.bench.now self.new.bench.now }
     {
         let place = self.bench.top()?;
@@ -80,10 +80,10 @@ impl<C: Chart> Plan<'_, '_, '_, C> {
     pub fn repair(&mut self) -> Result<u16, Unsettled>
         ensures sources { SameSources self.old self.new }
         ensures few { steps_of result ≤ 2 * places (C.Chart.meaning self.old.chart.now) }
-        ensures steps { places (C.Chart.meaning self.old.chart.now) ≤ room self.old.bench.now → UpToDate (C.Chart.meaning self.old.chart.now) (memory C.Price.PriceKind.value self.old.bench.now) → steps_of result ≡ length (defined_repair (C.Chart.meaning self.old.chart.now) (standings C.Price.PriceKind.value self.old.bench.now)).steps }
-        ensures standings { places (C.Chart.meaning self.old.chart.now) ≤ room self.old.bench.now → UpToDate (C.Chart.meaning self.old.chart.now) (memory C.Price.PriceKind.value self.old.bench.now) → standings C.Price.PriceKind.value self.new.bench.now ≡ (defined_repair (C.Chart.meaning self.old.chart.now) (standings C.Price.PriceKind.value self.old.bench.now)).left }
-        ensures settled { places (C.Chart.meaning self.old.chart.now) ≤ room self.old.bench.now → UpToDate (C.Chart.meaning self.old.chart.now) (memory C.Price.PriceKind.value self.old.bench.now) → is_ok result ≡ settled (C.Chart.meaning self.old.chart.now) (standings C.Price.PriceKind.value self.new.bench.now) }
-        ensures current { places (C.Chart.meaning self.old.chart.now) ≤ room self.old.bench.now → UpToDate (C.Chart.meaning self.old.chart.now) (memory C.Price.PriceKind.value self.old.bench.now) → UpToDate (C.Chart.meaning self.old.chart.now) (memory C.Price.PriceKind.value self.new.bench.now) }
+        ensures steps { WhereCurrent C.Price.PriceKind.value (C.Chart.meaning self.old.chart.now) self.old.bench.now (steps_of result ≡ length (defined_repair (C.Chart.meaning self.old.chart.now) (standings C.Price.PriceKind.value self.old.bench.now)).steps) }
+        ensures standings { WhereCurrent C.Price.PriceKind.value (C.Chart.meaning self.old.chart.now) self.old.bench.now (standings C.Price.PriceKind.value self.new.bench.now ≡ (defined_repair (C.Chart.meaning self.old.chart.now) (standings C.Price.PriceKind.value self.old.bench.now)).left) }
+        ensures settled { WhereCurrent C.Price.PriceKind.value (C.Chart.meaning self.old.chart.now) self.old.bench.now (is_ok result ≡ settled (C.Chart.meaning self.old.chart.now) (standings C.Price.PriceKind.value self.new.bench.now)) }
+        ensures current { WhereCurrent C.Price.PriceKind.value (C.Chart.meaning self.old.chart.now) self.old.bench.now (UpToDate (C.Chart.meaning self.old.chart.now) (memory C.Price.PriceKind.value self.new.bench.now)) }
         ensures past { KeepsPast (places (C.Chart.meaning self.old.chart.now)) self.old.bench.now self.new.bench.now }
     {
         let limit = self.step_limit();

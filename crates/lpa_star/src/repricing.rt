@@ -6,8 +6,9 @@ ghost use Rattle.chart.specs.Refusals.{refusal, refused, unless};
 ghost use Rattle.bench.specs.Contents.{SameLender, room, standings};
 ghost use Rattle.lpa_star.specs.Memory.{memory};
 ghost use Rattle.lpa_star.specs.Past.{KeepsPast};
-ghost use Rattle.lpa_star.specs.UpToDate.{SameAt, UpToDate};
+ghost use Rattle.lpa_star.specs.UpToDate.{SameAt, UpToDate, WhereCurrent};
 
+use crate::look::led_to;
 use crate::plan::Plan;
 use bench::Bench;
 use chart::{Chart, ChartFault};
@@ -26,14 +27,14 @@ pub fn reprice<'m, C: Chart>(
     ensures same { is_err result ≡ true → (chart.new ≡ chart.old) × (bench.new ≡ bench.old) }
     ensures standings { standings C.Price.PriceKind.value bench.new ≡ standings C.Price.PriceKind.value bench.old }
     ensures others { (q : ℕ) → leads_into q (link_at (C.Chart.meaning chart.old) link) ≡ false → SameAt (memory C.Price.PriceKind.value bench.old) (memory C.Price.PriceKind.value bench.new) q }
-    ensures current { places (C.Chart.meaning chart.old) ≤ room bench.old → UpToDate (C.Chart.meaning chart.old) (memory C.Price.PriceKind.value bench.old) → UpToDate (C.Chart.meaning chart.new) (memory C.Price.PriceKind.value bench.new) }
+    ensures current { WhereCurrent C.Price.PriceKind.value (C.Chart.meaning chart.old) bench.old (UpToDate (C.Chart.meaning chart.new) (memory C.Price.PriceKind.value bench.new)) }
     ensures past { KeepsPast (places (C.Chart.meaning chart.old)) bench.old bench.new }
 {
-    let priced = chart.link(link);
+    let to = led_to(chart, link);
     chart.set_price(link, price)?;
-    if let Some(link) = priced {
+    if let Some(to) = to {
         let mut plan = Plan { chart, bench };
-        plan.update(link.to);
+        plan.update(to);
     }
     Ok(())
 }

@@ -8,9 +8,9 @@ ghost use Rattle.lifelong.specs.Step.{changed};
 ghost use Rattle.lpa_star.specs.Memory.{memory};
 ghost use Rattle.lpa_star.specs.Plans.{SameSources};
 ghost use Rattle.lpa_star.specs.Past.{KeepsPast};
-ghost use Rattle.lpa_star.specs.UpToDate.{RightAt, SameAt, UpToDate, UpToDateBut};
+ghost use Rattle.lpa_star.specs.UpToDate.{RightAt, SameAt, UpToDate, UpToDateBut, WhereCurrent};
 
-use crate::look::standing_of;
+use crate::look::{led_to, standing_of};
 use crate::plan::Plan;
 use chart::{Chart, End, LinksAt};
 use price::PriceKind;
@@ -56,8 +56,8 @@ impl<C: Chart> Plan<'_, '_, '_, C> {
     {
         let chart = self.chart;
         for number in LinksAt::new(chart, End::From, place) {
-            if let Some(link) = chart.link(number) {
-                self.update(link.to);
+            if let Some(to) = led_to(chart, number) {
+                self.update(to);
             }
         }
         self.update(place);
@@ -67,7 +67,7 @@ impl<C: Chart> Plan<'_, '_, '_, C> {
     pub(crate) fn expand(&mut self, place: u16)
         ensures sources { SameSources self.old self.new }
         ensures standings { place < room self.old.bench.now → standings C.Price.PriceKind.value self.new.bench.now ≡ slice_set (standings C.Price.PriceKind.value self.old.bench.now) place (changed (standing_at (standings C.Price.PriceKind.value self.old.bench.now) place) (slice_index_or (lookaheads C.Price.PriceKind.value self.old.bench.now) place closed)) }
-        ensures current { place < places (C.Chart.meaning self.old.chart.now) → places (C.Chart.meaning self.old.chart.now) ≤ room self.old.bench.now → UpToDate (C.Chart.meaning self.old.chart.now) (memory C.Price.PriceKind.value self.old.bench.now) → UpToDate (C.Chart.meaning self.old.chart.now) (memory C.Price.PriceKind.value self.new.bench.now) }
+        ensures current { place < places (C.Chart.meaning self.old.chart.now) → WhereCurrent C.Price.PriceKind.value (C.Chart.meaning self.old.chart.now) self.old.bench.now (UpToDate (C.Chart.meaning self.old.chart.now) (memory C.Price.PriceKind.value self.new.bench.now)) }
         ensures past { place < places (C.Chart.meaning self.old.chart.now) → KeepsPast (places (C.Chart.meaning self.old.chart.now)) self.old.bench.now self.new.bench.now }
     {
         let standing = changed(standing_of(self.bench, place), self.kept_lookahead(place));

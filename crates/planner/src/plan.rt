@@ -7,7 +7,7 @@ ghost use Rattle.lifelong.specs.Step.{settled};
 ghost use Rattle.lpa_star.specs.Closing.{closed_first};
 ghost use Rattle.lpa_star.specs.Outcomes.{steps_of};
 ghost use Rattle.lpa_star.specs.Past.{KeepsPast};
-ghost use Rattle.lpa_star.specs.UpToDate.{UpToDate};
+ghost use Rattle.lpa_star.specs.UpToDate.{UpToDate, WhereCurrent};
 ghost use Rattle.lifelong.specs.Standings.{standing_at};
 ghost use Rattle.lpa_star.specs.Memory.{Memory, memory};
 ghost use Rattle.turns.specs.History.{Reachable, passes};
@@ -80,10 +80,10 @@ impl<C: Chart> Planner<C> {
         ensures planner { self.new ≡ self.old }
         ensures lender { SameLender bench.old bench.new }
         ensures few { steps_of result ≤ 2 * places (C.Chart.meaning self.old.chart) }
-        ensures steps { places (C.Chart.meaning self.old.chart) ≤ room bench.old → UpToDate (C.Chart.meaning self.old.chart) (memory C.Price.PriceKind.value bench.old) → steps_of result ≡ length (defined_repair (C.Chart.meaning self.old.chart) (standings C.Price.PriceKind.value bench.old)).steps }
-        ensures standings { places (C.Chart.meaning self.old.chart) ≤ room bench.old → UpToDate (C.Chart.meaning self.old.chart) (memory C.Price.PriceKind.value bench.old) → standings C.Price.PriceKind.value bench.new ≡ (defined_repair (C.Chart.meaning self.old.chart) (standings C.Price.PriceKind.value bench.old)).left }
-        ensures settled { places (C.Chart.meaning self.old.chart) ≤ room bench.old → UpToDate (C.Chart.meaning self.old.chart) (memory C.Price.PriceKind.value bench.old) → is_ok result ≡ settled (C.Chart.meaning self.old.chart) (standings C.Price.PriceKind.value bench.new) }
-        ensures current { places (C.Chart.meaning self.old.chart) ≤ room bench.old → UpToDate (C.Chart.meaning self.old.chart) (memory C.Price.PriceKind.value bench.old) → UpToDate (C.Chart.meaning self.old.chart) (memory C.Price.PriceKind.value bench.new) }
+        ensures steps { WhereCurrent C.Price.PriceKind.value (C.Chart.meaning self.old.chart) bench.old (steps_of result ≡ length (defined_repair (C.Chart.meaning self.old.chart) (standings C.Price.PriceKind.value bench.old)).steps) }
+        ensures standings { WhereCurrent C.Price.PriceKind.value (C.Chart.meaning self.old.chart) bench.old (standings C.Price.PriceKind.value bench.new ≡ (defined_repair (C.Chart.meaning self.old.chart) (standings C.Price.PriceKind.value bench.old)).left) }
+        ensures settled { WhereCurrent C.Price.PriceKind.value (C.Chart.meaning self.old.chart) bench.old (is_ok result ≡ settled (C.Chart.meaning self.old.chart) (standings C.Price.PriceKind.value bench.new)) }
+        ensures current { WhereCurrent C.Price.PriceKind.value (C.Chart.meaning self.old.chart) bench.old (UpToDate (C.Chart.meaning self.old.chart) (memory C.Price.PriceKind.value bench.new)) }
         ensures past { KeepsPast (places (C.Chart.meaning self.old.chart)) bench.old bench.new }
     {
         let mut plan = Plan {

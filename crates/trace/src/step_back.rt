@@ -20,7 +20,7 @@ pub struct Step<P> {
     pub number: u16,
 }
 
-// The nearer of the best so far and a new one.
+// The nearer of the best so far and a new one. `Option`'s own order would put no step first.
 fn nearer_of<P: PriceKind>(best: Option<Step<P>>, new: Option<Step<P>>) -> Option<Step<P>>
     ensures { option_map (move_of P.PriceKind.value) result ≡ nearest (option_map (move_of P.PriceKind.value) best) (option_map (move_of P.PriceKind.value) new) }
 {

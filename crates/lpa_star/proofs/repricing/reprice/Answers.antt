@@ -1,11 +1,11 @@
-use Rattle.std.proofs.Common.{◌≡◌, ◌<◌, ◌≤◌, sym, ap, ◌∙◌, subst}
+use Rattle.std.proofs.Common.{◌≡◌, ◌<◌, ◌≤◌, sym, ◌∙◌, subst}
 use Rattle.chart.specs.Meaning.{link_at, places, priced}
 use Rattle.chart.specs.Refusals.{refusal}
 use Rattle.bench.specs.Contents.{room}
 use Rattle.lpa_star.specs.Memory.{memory}
 use Rattle.lpa_star.specs.UpToDate.{UpToDate, to_of}
 use Rattle.lpa_star.proofs.Repricings.{not_refused, repriced}
-use Rattle.lpa_star.proofs.Successors.{to_inside}
+use Rattle.lpa_star.proofs.Successors.{led, to_inside}
 use Rattle.lpa_star.proofs.repricing.reprice.Goals as goal
 
 pub returns-in-Some-clause-current : goal.returns-in-Some-clause-current
@@ -19,8 +19,8 @@ returns-in-Some-clause-current g c = λ lr z.
     let t = c.in_ok-set_price.ensures in
     let h = c.update.ensures in
     let law = g.C.Chart.lawful c.args.chart.now in
-    let p = c.in-Some.link.to in
-    let ep : p ≡ to_of (link_at m n) m.start = ap (λ o. to_of o m.start) c.in-Some.ensures in
+    let p = c.in-Some.to in
+    let ep : p ≡ to_of (link_at m n) m.start = led (link_at m n) m.start p c.in-Some.ensures in
     let lp : p < places m = subst (λ q. q < places m) (sym ep) (to_inside m.kind (places m) m.height m.start (link_at m n) law.start_in (law.links_law n)) in
     let ek : k ≡ priced m n x = t.after ∙ not_refused (refusal m n x) m (priced m n x) t.answer in
     let left = c.bench-1.given.1 (sym h.sources.1) in

@@ -1,4 +1,4 @@
-use Rattle.std.proofs.Common.{◌≡◌, ◌+◌, ◌<◌, ◌≤◌, sym, refl, ap, ◌∙◌, subst}
+use Rattle.std.proofs.Common.{◌≡◌, ◌+◌, ◌<◌, ◌≤◌, sym, refl, ◌∙◌, subst}
 use Rattle.std.proofs.lemmas.Bool.{both_ways}
 use Rattle.chart.specs.Links.{left}
 use Rattle.chart.specs.Meaning.{link_at, places}
@@ -8,11 +8,11 @@ use Rattle.bench.specs.Contents.{room}
 use Rattle.lpa_star.specs.Memory.{memory}
 use Rattle.lpa_star.specs.UpToDate.{RightAt, to_of}
 use Rattle.lpa_star.proofs.Kept.{keeps_then}
-use Rattle.lpa_star.proofs.Successors.{none_less, one_less, to_inside}
+use Rattle.lpa_star.proofs.Successors.{led, led_nowhere, none_less, one_less, to_inside}
 use Rattle.lpa_star.proofs.plan.Plan.update_from.Goals as goal
 
-pub loop-number-preserved-in-Some-link : goal.loop-number-preserved-in-Some-link
-loop-number-preserved-in-Some-link g c =
+pub loop-number-preserved-in-Some-led_to : goal.loop-number-preserved-in-Some-led_to
+loop-number-preserved-in-Some-led_to g c =
     let chart = c.args.self.now.chart in
     let m = g.C.Chart.meaning chart.now in
     let v = g.C.Price.PriceKind.value in
@@ -20,13 +20,13 @@ loop-number-preserved-in-Some-link g c =
     let l = c.loop-number in
     let inv = l.invariant in
     let n = c.in-Some.number in
-    let p = c.in-Some-link.link.to in
+    let p = c.in-Some-led_to.to in
     let a = c.args.self.now.bench.now in
     let b = l.self.bench.now in
     let d = c.update.new.self.bench.now in
     let e = c.update.ensures in
     let next = next_of (leads_out u) m.links inv.0 n (left g.C.Chart.meaning c.next.new.self) (sym inv.1 ∙ c.in-Some.ensures.steps) in
-    let ep : p ≡ to_of (link_at m n) u = ap (λ o. to_of o u) c.in-Some-link.ensures in
+    let ep : p ≡ to_of (link_at m n) u = led (link_at m n) u p c.in-Some-led_to.ensures in
     let inside : u < places m → p < places m =
     λ lu. subst (λ q. q < places m) (sym ep) (to_inside m.kind (places m) m.height u (link_at m n) lu ((g.C.Chart.lawful chart.now).links_law n)) in
     let right : p < places m → places m ≤ room b → RightAt m (memory v d) p =
@@ -47,7 +47,7 @@ loop-number-preserved g c =
     let u = c.args.place in
     let inv = c.loop-number.invariant in
     let next = next_of (leads_out u) m.links inv.0 c.in-Some.number (left g.C.Chart.meaning c.next.new.self) (sym inv.1 ∙ c.in-Some.ensures.steps) in
-    absurd (both_ways (leads_out u (link_at m c.in-Some.number)) (ap (leads_out u) (sym c.in_default.ensures)) next.0.2)
+    absurd (both_ways (leads_out u (link_at m c.in-Some.number)) (led_nowhere (link_at m c.in-Some.number) u c.in_default.ensures) next.0.2)
 
 pub returns-clause-current : goal.returns-clause-current
 returns-clause-current g c = λ lu lr z.
