@@ -101,14 +101,16 @@ impl<'a> Frame<'a> {
         Ok(())
     }
 
-    // Writes the records of a type over the first of the memory; what lies past them stays.
+    // Writes the records of a type over the first of the memory; what lies past them stays. A count has 16 bits, so each
+    // number has too.
     pub(crate) fn write<R: Record>(self, memory: &mut [R])
         requires { R.layout.count self.trailer ≤ length memory.old }
         ensures { memory.new ≡ filled R.layout self.entry.file.now memory.old }
     {
-        // By index: while `iter_mut` lends the memory, the proof cannot say what it holds so far.
-        for n in 0..R::count(self.trailer) {
-            memory[usize::from(n)] = self.record(n);
+        let count = usize::from(R::count(self.trailer));
+        let first = &mut memory[..count];
+        for (n, record) in first.iter_mut().enumerate() {
+            *record = self.record(n as u16);
         }
     }
 }

@@ -6,10 +6,10 @@ ghost use Rattle.lattice_meaning.specs.Directions.{back, direction, links_per_pl
 // In the order of the link numbers of a place.
 #[derive(Clone, Copy, PartialEq, Eq, Debug)]
 pub(crate) enum Direction {
-    Up,
-    Right,
-    Down,
-    Left,
+    Up = 0,
+    Right = 1,
+    Down = 2,
+    Left = 3,
 }
 
 // Each place has a link number for each direction.
@@ -34,12 +34,7 @@ impl Direction {
         ensures number { result ≡ number self }
         ensures few { result < links_per_place }
     {
-        match self {
-            Direction::Up => 0,
-            Direction::Right => 1,
-            Direction::Down => 2,
-            Direction::Left => 3,
-        }
+        u16::from(self as u8)
     }
 
     pub(crate) fn opposite(self) -> Direction

@@ -5,4 +5,4 @@ use Rattle.chart_file.proofs.frame.Frame.write.Given as goal
 
 -- the records so far, then the memory as it was
 abbrev pub invariant-loop-n : goal.invariant-loop-n
-invariant-loop-n g l = l.memory ≡ map (record_of g.R.Record.layout l.self.file.now) (range_with_len 0 l.n) ++ drop l.n l.initial.memory
+invariant-loop-n g l = l.first ≡ map (record_of g.R.Record.layout l.self.file.now) (range_with_len 0 l.n) ++ drop l.n l.initial.first
