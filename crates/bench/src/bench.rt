@@ -15,7 +15,7 @@ pub const MOST_PLACES: u16 = 4096;
 #[derive(Drop)]
 pub struct Bench<'a, P, K = Key<P>> {
     pub(crate) records: &'a mut [Record<P, K>],
-    // how many of the slots are used, from the first on
+    // how many of the slots are used, from the first on: the memory is lent, and longer than what is in use
     pub(crate) used: usize,
     // the number of the planner that the bench was laid for
     pub(crate) number: u32,

@@ -16,6 +16,7 @@ pub(crate) fn link<P, K>(records: &mut [Record<P, K>], slot: usize, place: u16)
     ensures kept { Kept records.old records.new }
 {
     records[slot].slot = place;
+    // below 4,096, by what is asked above
     records[usize::from(place)].index = slot as u16;
 }
 
