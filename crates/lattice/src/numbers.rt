@@ -1,4 +1,5 @@
-// A price, and the number that stands for it in the memory: 0 is closed.
+// A price, and the number that stands for it in the memory: 0 is closed. Both types come from elsewhere, so no `From` can stand
+// here.
 ghost use Rattle.std.specs.Prelude.{◌≡◌, true};
 ghost use Rattle.lattice_meaning.specs.Prices.{number_of, price_of};
 ghost use Rattle.price.specs.Kinds.{time_kind, time_value};
