@@ -1,20 +1,15 @@
 -- Columns of a list of records, and one element of a list as an option.
-use Rattle.std.proofs.Common.{◌≡◌, ℕ, zero, suc, ◌<◌, List, [], ◌∷◌, map, length, get_or, set, Some, None, Option, sym, refl, ap, ◌∙◌, Bor}
+use Rattle.std.proofs.Common.{◌≡◌, ℕ, zero, suc, ◌<◌, List, [], ◌∷◌, map, length, get_or, set, Some, sym, refl, ap, ◌∙◌}
 use mathlib.Core.List.{map-map}
 use Rattle.std.specs.Option.{option_map}
 use Rattle.std.specs.List.{slice_get}
-use Rattle.std.specs.Slice.{IsGetResult}
 use Rattle.std.proofs.lemmas.List.{map-set}
-use Rattle.std.proofs.lemmas.Option.{slice_get-get_or, slice_get_past, slice_get_read}
-
-pub nth_map : {X Y : Type 0} (f : X → Y) (xs : List X) (i : ℕ) → slice_get (map f xs) i ≡ option_map f (slice_get xs i)
-nth_map f [] i = refl
-nth_map f (x ∷ xs) zero = refl
-nth_map f (x ∷ xs) (suc i) = nth_map f xs i
+use lib.Seq.{map-set_same}
+use Rattle.std.proofs.lemmas.Option.{slice_get-map, slice_get-get_or}
 
 -- one record's part of a column
 pub nth_column : {X Y : Type 0} (f : X → Y) (xs : List X) (i : ℕ) (d : X) → i < length xs → slice_get (map f xs) i ≡ Some (f (get_or xs i d))
-nth_column f xs i d l = nth_map f xs i ∙ ap (option_map f) (slice_get-get_or xs i d l)
+nth_column f xs i d l = slice_get-map f xs i ∙ ap (option_map f) (slice_get-get_or xs i d l)
 
 pub nth_set_other : {X : Type 0} (xs : List X) (i j : ℕ) (y : X) → (j ≡ i → ⊥) → slice_get (set xs i y) j ≡ slice_get xs j
 nth_set_other [] i j y u = refl
@@ -23,11 +18,6 @@ nth_set_other (x ∷ xs) zero (suc j) y u = refl
 nth_set_other (x ∷ xs) (suc i) zero y u = refl
 nth_set_other (x ∷ xs) (suc i) (suc j) y u = nth_set_other xs i j y (λ e. u (ap suc e))
 
--- what a lent record has of a column
-pub item_column : {X Y : Type 0} (f : X → Y) (xs : List X) (i : ℕ) (r : Option (Bor X)) → IsGetResult xs i i r → option_map (λ x. f x.now) r ≡ slice_get (map f xs) i
-item_column f xs i None h = sym (nth_map f xs i ∙ ap (option_map f) (slice_get_past xs i h.3))
-item_column f xs i (Some x) h = sym (nth_map f xs i ∙ ap (option_map f) (slice_get_read xs (length xs) i x.now refl h.3.0 h.1))
-
 -- a column of a column
 module _ {X Y Z : Type 0} (f : X → Y) (g : Y → Z) (xs ys : List X) where
   pub column_same : map f ys ≡ map f xs → map (λ x. g (f x)) ys ≡ map (λ x. g (f x)) xs
@@ -35,3 +25,6 @@ module _ {X Y Z : Type 0} (f : X → Y) (g : Y → Z) (xs ys : List X) where
 
   pub column_set : (i : ℕ) (y : Y) → map f ys ≡ set (map f xs) i y → map (λ x. g (f x)) ys ≡ set (map (λ x. g (f x)) xs) i (g y)
   column_set i y e = sym (map-map g f ys) ∙ ap (map g) e ∙ map-set g (map f xs) i y ∙ ap (λ zs. set zs i (g y)) (map-map g f xs)
+
+-- what one write leaves of a column
+pub ruleset column_writes = (map-set, map-set_same)

@@ -2,12 +2,8 @@
 use Rattle.std.proofs.Common.{◌≡◌, ℕ, zero, suc, ◌+◌, ◌-◌, ◌/◌, ◌<◌, ◌≤◌, Bool, true, false, refl, ap, ◌∙◌, ⊎_elim, arith}
 use Rattle.std.proofs.lemmas.Bool.{cases_eq}
 use Rattle.std.proofs.lemmas.List.Edits.{Swapped}
+use Rattle.std.specs.Cmp.{IsStrictWeakOrder}
 use Rattle.bench.specs.Heap.{Child, Gap, Le, Ordered, Over, Under}
-
--- an order with ties
-pub record Ranks (lt : ℕ → ℕ → Bool) : Type 0 where
-  pub one_way : (x y : ℕ) → lt x y ≡ true → Le lt x y
-  pub chain : (x y z : ℕ) → Le lt x y → Le lt y z → Le lt x z
 
 module _ (lt : ℕ → ℕ → Bool) where
   by : (a b x y : ℕ) → a ≡ x → b ≡ y → Le lt x y → Le lt a b
@@ -21,7 +17,7 @@ module _ (lt : ℕ → ℕ → Bool) where
       (λ e. by _ _ _ _ refl (ap f e) (under i (omega arith, omega arith)))
       (λ v. gap.apart i k a l u v) (cases_eq k j)) (cases_eq i j)
 
-  module _ (o : Ranks lt) (f g : ℕ → ℕ) (j c n : ℕ) (is : Child j c) (in' : c < n) (s : Swapped f g j c) where
+  module _ (o : IsStrictWeakOrder lt) (f g : ℕ → ℕ) (j c n : ℕ) (is : Child j c) (in' : c < n) (s : Swapped f g j c) where
     -- the gap goes down from j to its first child c
     pub down : Over lt f (f c) j n → Gap lt f j n → Gap lt g c n
     down best h = record {
@@ -52,36 +48,26 @@ module _ (lt : ℕ → ℕ → Bool) where
           let same = s.2 i (omega arith) (omega arith) in
           ⊎_elim
           (λ e. by _ _ _ _ same (ap g e ∙ s.1) over)
-          (λ w. by _ _ _ _ same (s.2 k (omega arith) w) (o.chain _ _ _ over (h.apart j k b l (omega arith) w))) (cases_eq k c);
+          (λ w. by _ _ _ _ same (s.2 k (omega arith) w) (o.chain _ _ _ (h.apart j k b l (omega arith) w) over)) (cases_eq k c);
     }
 
-  never : Ranks lt → (x : ℕ) (b : Bool) → lt x x ≡ b → Le lt x x
+  never : IsStrictWeakOrder lt → (x : ℕ) (b : Bool) → lt x x ≡ b → Le lt x x
   never o x true e = o.one_way x x e
   never o x false e = e
 
-  pub same_slot : Ranks lt → (f : ℕ → ℕ) (j k : ℕ) → k ≡ j → Le lt (f j) (f k)
+  pub same_slot : IsStrictWeakOrder lt → (f : ℕ → ℕ) (j k : ℕ) → k ≡ j → Le lt (f j) (f k)
   same_slot o f j k e = by _ _ _ _ refl (ap f e) (never o (f j) _ refl)
 
   -- nothing comes before what stands in the first slot
-  pub top : Ranks lt → (f : ℕ → ℕ) (n : ℕ) → Ordered lt f n → (bound k : ℕ) → k ≤ bound → k < n → Le lt (f 0) (f k)
+  pub top : IsStrictWeakOrder lt → (f : ℕ → ℕ) (n : ℕ) → Ordered lt f n → (bound k : ℕ) → k ≤ bound → k < n → Le lt (f 0) (f k)
   top o f n h zero k a b = same_slot o f 0 k (omega arith)
   top o f n h (suc bound) k a b = ⊎_elim (same_slot o f 0 k)
-      (λ u. o.chain _ _ _ (top o f n h bound ((k - 1) / 2) (omega arith) (omega arith)) (h ((k - 1) / 2) k (omega arith, omega arith) b)) (cases_eq k 0)
-
-  -- one more slot at the end leaves a gap there
-  pub appends : (f g : ℕ → ℕ) (n : ℕ) → ((k : ℕ) → k < n → g k ≡ f k) → Ordered lt f n → Gap lt g n (n + 1)
-  appends f g n same h = record {
-    apart = λ i k a l u v. by _ _ _ _ (same i (omega arith)) (same k (omega arith)) (h i k a (omega arith));
-    across = λ i k a b l. absurd (omega arith);
-  }
+      (λ u. o.chain _ _ _ (h ((k - 1) / 2) k (omega arith, omega arith) b) (top o f n h bound ((k - 1) / 2) (omega arith) (omega arith))) (cases_eq k 0)
 
   -- the last slot, exchanged into slot j and left out, leaves a gap there
-  pub leaves : Ranks lt → (f g : ℕ → ℕ) (j n : ℕ) → j < n → Swapped f g j n → Ordered lt f (n + 1) → Gap lt g j n
+  pub leaves : IsStrictWeakOrder lt → (f g : ℕ → ℕ) (j n : ℕ) → j < n → Swapped f g j n → Ordered lt f (n + 1) → Gap lt g j n
   leaves o f g j n l s h = record {
     apart = λ i k a m u v. by _ _ _ _ (s.2 i u (omega arith)) (s.2 k v (omega arith)) (h i k a (omega arith));
     across = λ i k a b m. by _ _ _ _ (s.2 i (omega arith) (omega arith)) (s.2 k (omega arith) (omega arith))
-        (o.chain _ _ _ (h i j a (omega arith)) (h j k b (omega arith)));
+        (o.chain _ _ _ (h j k b (omega arith)) (h i j a (omega arith)));
   }
-
-  pub agrees : (f g : ℕ → ℕ) (m n : ℕ) → n ≤ m → ((k : ℕ) → k < n → g k ≡ f k) → Ordered lt f m → Ordered lt g n
-  agrees f g m n le same h = λ i k a l. by _ _ _ _ (same i (omega arith)) (same k l) (h i k a (omega arith))

@@ -1,11 +1,13 @@
-mod Columns
+pub mod Columns
 mod Heaps
-mod Ranked
+pub mod Ranked
 mod Slots
-mod Links
-mod Stays
+pub mod Links
 mod Pigeons
 mod Past
+mod Stays
+mod Moves
+mod Appends
 mod Sifts
-mod Inserts
-mod Prices
+mod Leaves
+pub mod Prices

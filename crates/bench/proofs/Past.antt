@@ -2,8 +2,12 @@
 use Rattle.std.proofs.Common.{◌≡◌, ℕ, ◌<◌, List, [], ◌∷◌, map, drop, set, sym, refl, ap, ◌∙◌, arith, drop-set-lt}
 use Rattle.std.proofs.lemmas.List.{drop-map}
 use Rattle.bench.specs.declared.record.Record.{Record}
-use Rattle.bench.specs.Records.{Exchanged, SamePast, in_slot, indexes, keys, lookaheads, slots, standings}
+use Rattle.bench.specs.Records.{Exchanged, in_slot, indexes, keys, lookaheads, slots, standings}
 use Rattle.bench.specs.Queue.{Rekeyed}
+
+-- from place m on each record is as it was, whole
+abbrev pub SamePast : {P K : Type 0} → List (Record P K) → List (Record P K) → ℕ → Type 0
+SamePast rs ss m = drop m ss ≡ drop m rs
 
 same_records : {P K : Type 0} (rs ss : List (Record P K)) → slots ss ≡ slots rs → indexes ss ≡ indexes rs → keys ss ≡ keys rs → standings ss ≡ standings rs → lookaheads ss ≡ lookaheads rs → ss ≡ rs
 same_records [] [] es ei ek et el = refl
@@ -36,7 +40,7 @@ module _ {P K : Type 0} (rs ss : List (Record P K)) (m : ℕ) where
   pub swap_past : (a b : ℕ) → Exchanged rs ss a b → a < m → b < m → in_slot rs a < m → in_slot rs b < m → SamePast rs ss m
   swap_past a b x la lb lp lq = columns_past
       (twice (slots rs) (slots ss) a b _ _ x.slots_are la lb)
-      (twice (indexes rs) (indexes ss) (in_slot rs a) (in_slot rs b) _ _ x.indexes_are lp lq)
+      (twice (indexes rs) (indexes ss) (in_slot rs b) (in_slot rs a) _ _ x.indexes_are lq lp)
       (ap (drop m) x.kept.0) x.kept.1 x.kept.2
 
   -- another key for place p below m

@@ -1,46 +1,36 @@
 -- No more slots are used than there are places.
-use Rattle.std.proofs.Common.{◌≡◌, ℕ, zero, suc, ◌+◌, ◌-◌, ◌<◌, ◌≤◌, cond, eqb, List, sym, ap, ◌∙◌, ⊎_elim, arith}
-use Rattle.std.proofs.lemmas.Bool.{cases_eq, cases_lt, eq-eqb, ne_eqb, cond-true, cond-false}
+use Rattle.std.proofs.Common.{◌≡◌, ℕ, ◌+◌, ◌<◌, ◌≤◌, true, cond, eqb, List, map, length, get_or, sym, ap, ◌∙◌, ⊎_elim, arith}
+use Rattle.std.proofs.lemmas.Bool.{cases_eq, eq-eqb, eqb-true, ne_eqb, cond-true, cond-false}
+use Rattle.std.proofs.lemmas.List.Folds.{Any-from_list_any}
+use Rattle.std.proofs.lemmas.List.FromFn.{get_or-map-range_with_len, length-map-range_with_len}
+use Rattle.std.proofs.lemmas.Map.Keys.{IsDistinct-from_apart}
+use Rattle.std.proofs.lemmas.Map.Steps.{length-le_from_distinct_below}
+use Rattle.std.specs.List.{list_any, range_with_len}
 use Rattle.bench.specs.declared.record.Record.{Record}
 use Rattle.bench.specs.Records.{in_slot, index_of}
-use Rattle.bench.specs.Queue.{Linked, Queued}
+use Rattle.bench.specs.Queue.{Queued}
+use Rattle.bench.proofs.Links.{Linked}
 
 abbrev Apart : (ℕ → ℕ) → ℕ → Type 0
 Apart F n = (k l : ℕ) → k < n → l < n → F k ≡ F l → k ≡ l
 
--- F with F n in the place of m
-abbrev squeeze : (ℕ → ℕ) → ℕ → ℕ → ℕ → ℕ
-squeeze F m n k = cond (eqb (F k) m) (F n) (F k)
-
-module _ (F : ℕ → ℕ) (m n : ℕ) (b : (k : ℕ) → k < n + 1 → F k < suc m) (inj : Apart F (n + 1)) where
-  at_m : (k : ℕ) → F k ≡ m → squeeze F m n k ≡ F n
-  at_m k e = cond-true (eqb (F k) m) (F n) (F k) (eq-eqb (F k) m e)
-
-  off_m : (k : ℕ) → (F k ≡ m → ⊥) → squeeze F m n k ≡ F k
-  off_m k u = cond-false (eqb (F k) m) (F n) (F k) (ne_eqb (F k) m u)
-
-  squeezed : (k : ℕ) → k < n → squeeze F m n k < m
-  squeezed k l = ⊎_elim
-      (λ e. let w = at_m k e in let h = b n (omega arith) in let u : F n ≡ m → ⊥ = λ d. let z = inj k n (omega arith) (omega arith) (e ∙ sym d) in omega arith in omega arith)
-      (λ u. let w = off_m k u in let h = b k (omega arith) in omega arith) (cases_eq (F k) m)
-
-  squeeze_apart : Apart (squeeze F m n) n
-  squeeze_apart k l lk ll e = ⊎_elim
-      (λ a. ⊎_elim
-      (λ c. inj k l (omega arith) (omega arith) (a ∙ sym c))
-      (λ c. let z = inj n l (omega arith) (omega arith) (sym (at_m k a) ∙ e ∙ off_m l c) in absurd (omega arith)) (cases_eq (F l) m))
-      (λ a. ⊎_elim
-      (λ c. let z = inj k n (omega arith) (omega arith) (sym (off_m k a) ∙ e ∙ at_m l c) in absurd (omega arith))
-      (λ c. inj k l (omega arith) (omega arith) (sym (off_m k a) ∙ e ∙ off_m l c)) (cases_eq (F l) m)) (cases_eq (F k) m)
-
 -- n different numbers below m are at most m
 pigeons : (m n : ℕ) (F : ℕ → ℕ) → ((k : ℕ) → k < n → F k < m) → Apart F n → n ≤ m
-pigeons zero n F b inj = ⊎_elim (λ l. let h = b 0 l in absurd (omega arith)) (λ l. omega arith) (cases_lt 0 n)
-pigeons (suc m) n F b inj = ⊎_elim
-    (λ l. let c : (k : ℕ) → k < (n - 1) + 1 → F k < suc m = λ k h. b k (omega arith) in
-    let i : Apart F ((n - 1) + 1) = λ k j h w. inj k j (omega arith) (omega arith) in
-    let r = pigeons m (n - 1) (squeeze F m (n - 1)) (squeezed F m (n - 1) c i) (squeeze_apart F m (n - 1) c i) in omega arith)
-    (λ l. omega arith) (cases_lt 0 n)
+pigeons m n F b inj =
+    let xs = map F (range_with_len 0 n) in
+    let long : length xs ≡ n = length-map-range_with_len F 0 n in
+    let nth : (i d : ℕ) → i < n → get_or xs i d ≡ F i = λ i d l. get_or-map-range_with_len F 0 n i i d l (omega arith) in
+    let distinct = IsDistinct-from_apart eqb xs (λ i j d l lj. ne_eqb (get_or xs i d) (get_or xs j d) (λ e.
+    let z = inj i j (omega arith) (omega arith) (sym (nth i d (omega arith)) ∙ e ∙ nth j d (omega arith)) in omega arith)) in
+    let below : (q : ℕ) → list_any (eqb q) xs ≡ true → q < m = λ q h.
+    let a = Any-from_list_any (eqb q) xs h in
+    let e = eqb-true q a.1 a.4 in
+    let r = nth a.0 a.1 (omega (arith, a.2)) in
+    let s = b a.0 (omega (arith, a.2)) in
+    let t = a.3 in
+    omega arith in
+    let z = length-le_from_distinct_below xs m distinct below in
+    omega arith
 
 -- where all queued places are below m, so are the used slots
 pub used_at_most : {P K : Type 0} (rs : List (Record P K)) (n m : ℕ) → Linked rs n → ((k : ℕ) → k < n → in_slot rs k < m) → n ≤ m

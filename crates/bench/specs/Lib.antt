@@ -6,3 +6,4 @@ pub mod Queue
 pub mod Sorted
 pub mod Prices
 pub mod Contents
+pub mod Changes

@@ -1,7 +1,8 @@
--- What the queue asks of an order of places under their keys.
-use Rattle.std.specs.Prelude.{◌≡◌, ℕ, Bool, true, false}
+-- The order of the queue, for any order of keys: the smaller key comes first, of equal keys the lower place number.
+use Rattle.std.specs.Prelude.{ℕ, Bool}
+use Rattle.std.specs.declared.cmp.Ordering.{Ordering}
+use Rattle.std.specs.Ordering.{is_lt, nat_cmp, ordering_then}
 
--- one comes before the other or neither does, and not to come after is transitive
-pub record WeakOrder {K : Type 0} (before : K → ℕ → K → ℕ → Bool) : Type 0 where
-  pub one_way : (a b : K) (p q : ℕ) → before a p b q ≡ true → before b q a p ≡ false
-  pub chain : (a b c : K) (p q r : ℕ) → before b q a p ≡ false → before c r b q ≡ false → before c r a p ≡ false
+-- place p under key a comes before place q under key b, where cmp orders the keys
+abbrev pub before_by : {K : Type 0} → (K → K → Ordering) → K → ℕ → K → ℕ → Bool
+before_by cmp a p b q = is_lt (ordering_then (cmp a b) (nat_cmp p q))

@@ -1,5 +1,5 @@
 -- What the records hold as prices, where v gives the price that a value stands for; the first slots, `used` many, are used.
-use Rattle.std.specs.Prelude.{◌≡◌, ℕ, false, List, map, ◌≢◌, slice_index_or}
+use Rattle.std.specs.Prelude.{◌≡◌, ℕ, false, List, map, slice_index_or}
 use Rattle.rows.specs.Rows.{Price, closed}
 use Rattle.rows.specs.Keys.{Key as RowKey, before}
 use Rattle.bench.specs.declared.key.Key.{Key}
@@ -33,7 +33,3 @@ SortedIn v rs used = Ordered (ahead before (keys_in v rs)) (in_slot rs) used
 -- no queued place comes before place p
 abbrev pub LeastIn : {P : Type 0} → (P → Price) → List (Record P (Key P)) → ℕ → ℕ → Type 0
 LeastIn v rs used p = (q : ℕ) → Queued rs used q → before (key_at v rs q) q (key_at v rs p) p ≡ false
-
--- of m used slots before and n after: the same places are queued, but perhaps for p
-abbrev pub Others : {P : Type 0} → List (Record P (Key P)) → ℕ → List (Record P (Key P)) → ℕ → ℕ → Type 0
-Others rs m ss n p = (q : ℕ) → (q ≢ p) → (Queued rs m q → Queued ss n q) × (Queued ss n q → Queued rs m q)

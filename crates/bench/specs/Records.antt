@@ -1,5 +1,5 @@
 -- The records by their columns.
-use Rattle.std.specs.Prelude.{◌≡◌, ℕ, List, map, drop, slice_index, slice_set}
+use Rattle.std.specs.Prelude.{◌≡◌, ℕ, List, map, slice_index, slice_set}
 use Rattle.bench.specs.declared.record.Record.{Record}
 
 -- the slots of the queue, each with the number of a place
@@ -34,12 +34,8 @@ index_of rs p = slice_index (indexes rs) p
 abbrev pub Kept : {P K : Type 0} → List (Record P K) → List (Record P K) → Type 0
 Kept rs ss = (keys ss ≡ keys rs) × (standings ss ≡ standings rs) × (lookaheads ss ≡ lookaheads rs)
 
--- from place m on each record is as it was, whole
-abbrev pub SamePast : {P K : Type 0} → List (Record P K) → List (Record P K) → ℕ → Type 0
-SamePast rs ss m = drop m ss ≡ drop m rs
-
 -- the places in slots a and b are exchanged, with their indexes, and all else is as it was
 pub record Exchanged {P K : Type 0} (rs ss : List (Record P K)) (a b : ℕ) : Type 0 where
   pub slots_are : slots ss ≡ slice_set (slice_set (slots rs) a (in_slot rs b)) b (in_slot rs a)
-  pub indexes_are : indexes ss ≡ slice_set (slice_set (indexes rs) (in_slot rs a) b) (in_slot rs b) a
+  pub indexes_are : indexes ss ≡ slice_set (slice_set (indexes rs) (in_slot rs b) a) (in_slot rs a) b
   pub kept : Kept rs ss

@@ -1,14 +1,15 @@
 // The queue as a binary heap in the slots of the records, for any order of keys.
 // Slot k has its children in slots 2k + 1 and 2k + 2. Places do not move: slots and indexes do.
-ghost use Rattle.std.specs.Prelude.{◌≡◌, ℕ, ◌+◌, ◌*◌, ◌<◌, ◌≤◌, length};
+ghost use Rattle.std.specs.Prelude.{◌≡◌, ℕ, ◌+◌, ◌*◌, ◌<◌, ◌≤◌, Some, IfSome, MatchOption};
+ghost use Rattle.std.specs.List.{slice_get};
+ghost use Rattle.bench.specs.Changes.{Heaped, HeapedBut, Reordered};
 ghost use Rattle.bench.specs.Heap.{Child};
-ghost use Rattle.bench.specs.Queue.{Added, Linked, Names, Permuted, Queued, QueuedBelow, Rekeyed, Removed, SamePlaces, StaysPast};
-ghost use Rattle.bench.specs.Records.{Exchanged, Kept, SamePast, in_slot, keys};
-ghost use Rattle.bench.specs.Sorted.{FirstOf, GapAt, InOrder, UnderAt, ahead};
+ghost use Rattle.bench.specs.Order.{before_by};
+ghost use Rattle.bench.specs.Records.{Exchanged, in_slot, keys};
+ghost use Rattle.bench.specs.Sorted.{FirstOf, UnderAt, ahead};
 
-use crate::fields::{index_of, key_of, put_index, put_key, put_slot, slot_of};
-use crate::order::HeapKey;
-use crate::record::Record;
+use crate::bench::Bench;
+use crate::writes::exchange;
 
 // The parent of a slot.
 fn parent(slot: usize) -> usize
@@ -18,155 +19,99 @@ fn parent(slot: usize) -> usize
     (slot - 1) / 2
 }
 
-// Exchanges the places in two slots, and their indexes with them.
-fn swap<P, K>(records: &mut [Record<P, K>], a: usize, b: usize)
-    requires first { Names records.old a }
-    requires second { Names records.old b }
-    ensures { Exchanged records.old records.new a b }
-{
-    let p = slot_of(records, a);
-    let q = slot_of(records, b);
-    put_slot(records, a, q);
-    put_slot(records, b, p);
-    put_index(records, p as usize, b as u16);
-    put_index(records, q as usize, a as u16);
-}
+impl<'a, P, K: Copy + Ord> Bench<'a, P, K> {
+    // The key of the place in a used slot, and the place.
+    #[tactic(auto, using(crate::proofs::Links::slot_within, crate::proofs::Columns::nth_column))]
+    fn entry(&self, slot: usize) -> (K, u16)
+        requires { slot < self.now.used }
+        ensures place { result.1 ≡ in_slot self.now.records.now slot }
+        ensures key { slice_get (keys self.now.records.now) (in_slot self.now.records.now slot) ≡ Some result.0 }
+    {
+        let place = self.records[slot].slot;
+        (self.records[usize::from(place)].key, place)
+    }
 
-// Does the place in slot a come before the place in slot b?
-fn comes_before<P, K: HeapKey>(records: &[Record<P, K>], a: usize, b: usize) -> bool
-    requires first { Names records.now a }
-    requires second { Names records.now b }
-    ensures { result ≡ ahead K.HeapKey.before (keys records.now) (in_slot records.now a) (in_slot records.now b) }
-{
-    let p = slot_of(records, a);
-    let q = slot_of(records, b);
-    let key = key_of(records, p as usize);
-    key.comes_before(p, key_of(records, q as usize), q)
-}
+    // Does the place in slot a come before the place in slot b? The smaller key comes first, of equal keys the lower number.
+    #[tactic(auto, unfolding(crate::specs::Sorted::ahead))]
+    fn comes_before(&self, a: usize, b: usize) -> bool
+        requires first { a < self.now.used }
+        requires second { b < self.now.used }
+        ensures { result ≡ ahead (before_by K.Ord.cmp) (keys self.now.records.now) (in_slot self.now.records.now a) (in_slot self.now.records.now b) }
+    {
+        self.entry(a) < self.entry(b)
+    }
 
-// Moves the place in slot `from` up until it does not come before its parent, and answers where it stands then.
-fn sift_up<P, K: HeapKey>(records: &mut [Record<P, K>], from: usize) -> usize
-    requires { Linked records.old (from + 1) }
-    ensures slot { result ≤ from }
-    ensures permuted { (n : ℕ) → Linked records.old n → from < n → Permuted records.old records.new n }
-    ensures under { UnderAt K.HeapKey.before records.new result }
-    ensures gap { (n : ℕ) → from < n → GapAt K.HeapKey.before records.old from n → GapAt K.HeapKey.before records.new result n }
-    ensures past { (n : ℕ) → Linked records.old n → from < n → StaysPast records.old records.new n }
-{
-    let mut at = from;
-    while at > 0 {
-        let up = parent(at);
-        if !comes_before(records, at, up) {
-            return at;
+    // Moves the place in slot `from` up until it does not come before its parent, and answers where it stands then.
+    fn sift_up(&mut self, from: usize) -> usize
+        requires { from < self.old.used }
+        ensures slot { result ≤ from }
+        ensures reordered { Reordered self.old self.new }
+        ensures under { UnderAt (before_by K.Ord.cmp) self.new.records.now result }
+        ensures gap { HeapedBut K.Ord.cmp self.old from → HeapedBut K.Ord.cmp self.new result }
+    {
+        let mut at = from;
+        while at > 0 {
+            let up = parent(at);
+            if !self.comes_before(at, up) {
+                return at;
+            }
+            self.swap(up, at);
+            at = up;
         }
-        swap(records, up, at);
-        at = up;
+        at
     }
-    at
-}
 
-// The child of slot `at` whose place comes first.
-fn first_child<P, K: HeapKey>(records: &[Record<P, K>], used: usize, at: usize) -> usize
-    requires linked { Linked records.now used }
-    requires child { at * 2 + 1 < used }
-    ensures child { (result < used) × (Child «at» result) }
-    ensures first { FirstOf K.HeapKey.before records.now result «at» used }
-{
-    let left = at * 2 + 1;
-    let right = at * 2 + 2;
-    if right < used && comes_before(records, right, left) {
-        right
-    } else {
-        left
-    }
-}
-
-// Moves the place in slot `from` down until none of its children comes before it.
-fn sift_down<P, K: HeapKey>(records: &mut [Record<P, K>], used: usize, from: usize)
-    requires linked { Linked records.old used }
-    requires slot { from < used }
-    ensures permuted { Permuted records.old records.new used }
-    ensures order { GapAt K.HeapKey.before records.old from used → UnderAt K.HeapKey.before records.old from → InOrder K.HeapKey.before records.new used }
-    ensures past { StaysPast records.old records.new used }
-{
-    let mut at = from;
-    while at * 2 + 1 < used {
-        let child = first_child(records, used, at);
-        if !comes_before(records, child, at) {
-            return;
+    // The child of slot `at` whose place comes first, or none at a leaf.
+    fn first_child(&self, at: usize) -> Option<usize>
+        requires { «at» < self.now.used }
+        ensures child { MatchOption result (self.now.used ≤ at * 2 + 1) (λ k. (k < self.now.used) × Child «at» k) }
+        ensures first { IfSome result (λ k. FirstOf (before_by K.Ord.cmp) self.now.records.now k «at» self.now.used) }
+    {
+        let left = at * 2 + 1;
+        let right = at * 2 + 2;
+        if left >= self.used {
+            return None;
         }
-        swap(records, at, child);
-        at = child;
+        if right < self.used && self.comes_before(right, left) {
+            return Some(right);
+        }
+        Some(left)
     }
-}
 
-// Puts the heap in order again where only the place in slot `at` may stand wrong.
-fn restore<P, K: HeapKey>(records: &mut [Record<P, K>], used: usize, at: usize)
-    requires linked { Linked records.old used }
-    requires slot { at < used }
-    ensures permuted { Permuted records.old records.new used }
-    ensures order { GapAt K.HeapKey.before records.old «at» used → InOrder K.HeapKey.before records.new used }
-    ensures past { StaysPast records.old records.new used }
-{
-    let moved = sift_up(records, at);
-    sift_down(records, used, moved);
-}
-
-// Queues a place that is not queued.
-pub(crate) fn insert<P, K: HeapKey>(records: &mut [Record<P, K>], used: usize, place: u16, key: K)
-    requires linked { Linked records.old used }
-    requires inside { (place < length records.old) × (place < 4096) }
-    requires new { Queued records.old used place → ⊥ }
-    ensures added { Added records.old records.new used place }
-    ensures rekeyed { Rekeyed records.old records.new place key }
-    ensures order { InOrder K.HeapKey.before records.old used → InOrder K.HeapKey.before records.new (used + 1) }
-    ensures past { (m : ℕ) → place < m → QueuedBelow records.old used m → SamePast records.old records.new m }
-{
-    put_key(records, place as usize, key);
-    put_slot(records, used, place);
-    put_index(records, place as usize, used as u16);
-    restore(records, used + 1, used);
-}
-
-// Takes the place in slot k out of the queue, in which `left` places are left.
-fn remove_at<P, K: HeapKey>(records: &mut [Record<P, K>], left: usize, k: usize)
-    requires linked { Linked records.old (left + 1) }
-    requires slot { k ≤ left }
-    ensures removed { Removed records.old records.new left (in_slot records.old k) }
-    ensures kept { Kept records.old records.new }
-    ensures order { InOrder K.HeapKey.before records.old (left + 1) → InOrder K.HeapKey.before records.new left }
-    ensures past { StaysPast records.old records.new (left + 1) }
-{
-    swap(records, k, left);
-    if k < left {
-        restore(records, left, k);
+    // Moves the place in slot `from` down until none of its children comes before it.
+    fn sift_down(&mut self, from: usize)
+        requires { from < self.old.used }
+        ensures reordered { Reordered self.old self.new }
+        ensures order { HeapedBut K.Ord.cmp self.old from → UnderAt (before_by K.Ord.cmp) self.old.records.now from → Heaped K.Ord.cmp self.new }
+    {
+        let mut at = from;
+        while let Some(child) = self.first_child(at) {
+            if !self.comes_before(child, at) {
+                return;
+            }
+            self.swap(at, child);
+            at = child;
+        }
     }
-}
 
-// Takes a queued place out of the queue, in which `left` places are left.
-pub(crate) fn remove<P, K: HeapKey>(records: &mut [Record<P, K>], left: usize, place: u16)
-    requires linked { Linked records.old (left + 1) }
-    requires queued { Queued records.old (left + 1) place }
-    ensures removed { Removed records.old records.new left place }
-    ensures kept { Kept records.old records.new }
-    ensures order { InOrder K.HeapKey.before records.old (left + 1) → InOrder K.HeapKey.before records.new left }
-    ensures past { StaysPast records.old records.new (left + 1) }
-{
-    let k = index_of(records, place as usize) as usize;
-    remove_at(records, left, k);
-}
+    // Puts the heap in order again where only the place in slot `at` may stand wrong.
+    pub(crate) fn restore(&mut self, at: usize)
+        requires { «at» < self.old.used }
+        ensures reordered { Reordered self.old self.new }
+        ensures order { HeapedBut K.Ord.cmp self.old «at» → Heaped K.Ord.cmp self.new }
+    {
+        let moved = self.sift_up(at);
+        self.sift_down(moved);
+    }
 
-// Gives a queued place another key, and moves it to where that belongs.
-pub(crate) fn rekey<P, K: HeapKey>(records: &mut [Record<P, K>], used: usize, place: u16, key: K)
-    requires linked { Linked records.old used }
-    requires queued { Queued records.old used place }
-    ensures linked { Linked records.new used }
-    ensures same { SamePlaces records.old records.new used }
-    ensures rekeyed { Rekeyed records.old records.new place key }
-    ensures order { InOrder K.HeapKey.before records.old used → InOrder K.HeapKey.before records.new used }
-    ensures past { StaysPast records.old records.new used }
-{
-    let k = index_of(records, place as usize) as usize;
-    put_key(records, place as usize, key);
-    restore(records, used, k);
+    // Exchanges the places in two used slots.
+    pub(crate) fn swap(&mut self, a: usize, b: usize)
+        requires first { a < self.old.used }
+        requires second { b < self.old.used }
+        ensures exchanged { Exchanged self.old.records.now self.new.records.now a b }
+        ensures reordered { Reordered self.old self.new }
+    {
+        let Bench { records, .. } = self;
+        exchange(records, a, b);
+    }
 }

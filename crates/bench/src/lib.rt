@@ -3,13 +3,12 @@
 
 mod bench;
 mod changes;
-mod fields;
 mod heap;
 mod key;
-mod order;
+mod members;
 mod questions;
-mod queue;
 mod record;
+mod writes;
 
 pub use bench::{Bench, MOST_PLACES};
 pub use key::Key;

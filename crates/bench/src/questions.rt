@@ -7,7 +7,7 @@ ghost use Rattle.bench.specs.Keys.{key_of};
 
 use crate::bench::Bench;
 use crate::key::Key;
-use crate::queue;
+use crate::record::Record;
 use price::PriceKind;
 
 impl<'a, P: PriceKind> Bench<'a, P> {
@@ -25,25 +25,32 @@ impl<'a, P: PriceKind> Bench<'a, P> {
         self.records.len()
     }
 
+    // The record of a place, or none outside the memory.
+    fn record(&self, place: u16) -> Option<&Record<P>>
+        ensures { option_map (λ r. r.now) result ≡ slice_get self.now.records.now place }
+    {
+        self.records.get(usize::from(place))
+    }
+
     // The standing of a place, or none outside the memory.
     pub fn standing(&self, place: u16) -> Option<P>
         ensures { option_map P.PriceKind.value result ≡ slice_get (standings P.PriceKind.value self.now) place }
     {
-        queue::standing_of(self.records, place as usize)
+        self.record(place).map(|record| record.standing)
     }
 
     // The lookahead of a place, or none outside the memory.
     pub fn lookahead(&self, place: u16) -> Option<P>
         ensures { option_map P.PriceKind.value result ≡ slice_get (lookaheads P.PriceKind.value self.now) place }
     {
-        queue::lookahead_of(self.records, place as usize)
+        self.record(place).map(|record| record.lookahead)
     }
 
     // The key of a place, queued or not, or none outside the memory.
     pub fn key(&self, place: u16) -> Option<Key<P>>
         ensures { option_map (key_of P.PriceKind.value) result ≡ slice_get (kept_keys P.PriceKind.value self.now) place }
     {
-        queue::key_of(self.records, place as usize)
+        self.record(place).map(|record| record.key)
     }
 }
 
@@ -52,15 +59,16 @@ impl<'a, P: PriceKind> Bench<'a, P> {
     pub fn is_queued(&self, place: u16) -> bool
         ensures { ((result ≡ true → Waits self.now place)) × ((result ≡ false → Waits self.now place → ⊥)) }
     {
-        queue::is_queued(self.records, self.used, place)
+        self.holds(place)
     }
 
     // The place in the queue that comes first, or none where the queue is empty. Where the queue is not in heap order,
     // which of the queued places it is is free.
+    #[tactic(auto, using(crate::proofs::Prices::top_is_least))]
     pub fn top(&self) -> Option<u16>
         ensures place { MatchOption result ((q : ℕ) → Waits self.now q → ⊥) (λ p. Waits self.now p × (p < room self.now) × (p < 4096)) }
         ensures least { Sorted P.PriceKind.value self.now → IfSome result (λ p. Least P.PriceKind.value self.now p) }
     {
-        queue::first(self.records, self.used)
+        self.first()
     }
 }

@@ -9,10 +9,7 @@ use std::alloc::{AllocError, Global};
 pub fn price<P: PriceKind>(n: u64) -> P {
     let one = P::from_numbers(&[n]);
     let two = P::from_numbers(&[n / 8, n % 8]);
-    match one.or(two) {
-        Some(price) => price,
-        None => P::closed(),
-    }
+    one.or(two).unwrap_or(P::closed())
 }
 
 pub fn key<P: PriceKind>(n: u64) -> Key<P> {

@@ -1,6 +1,6 @@
 // What a lender knows of its memory once the bench over it is gone.
 ghost use Rattle.std.specs.Prelude.{◌≡◌, ◌&&◌, true, false, length, nat_lt, slice_set};
-ghost use Rattle.bench.specs.Contents.{Waits, can_wait, keys, lookaheads, standings};
+ghost use Rattle.bench.specs.Contents.{SameLender, Waits, can_wait, keys, lookaheads, standings};
 ghost use Rattle.bench.specs.Keys.{key_of};
 ghost use Rattle.bench.specs.Prices.{keys_in, lookaheads_in, standings_in};
 
@@ -23,7 +23,7 @@ pub fn in_and_out<P: PriceKind>(bench: &mut Bench<P>, place: u16, key: Key<P>) -
     ensures answer { result ≡ can_wait bench.old place }
     ensures refused { result ≡ false → keys P.PriceKind.value bench.new ≡ keys P.PriceKind.value bench.old }
     ensures gone { Waits bench.new place → ⊥ }
-    ensures lender { bench.new.records.ghost_name ≡ bench.old.records.ghost_name }
+    ensures lender { SameLender bench.old bench.new }
     ensures written { result ≡ true → keys P.PriceKind.value bench.new ≡ slice_set (keys P.PriceKind.value bench.old) place (key_of P.PriceKind.value key) }
     ensures rest { (standings P.PriceKind.value bench.new ≡ standings P.PriceKind.value bench.old) × (lookaheads P.PriceKind.value bench.new ≡ lookaheads P.PriceKind.value bench.old) }
 {

@@ -1,5 +1,5 @@
 use crate::fill::{key, memory, price};
-use bench::{Bench, Key, MOST_PLACES};
+use bench::{Bench, MOST_PLACES};
 use price::{Lift, PriceKind, Time};
 use std::alloc::Global;
 use std::process::Abort;
@@ -16,47 +16,42 @@ fn key_number(place: u16) -> u64 {
 
 // The n-th place in a mixed order.
 fn scattered(n: u16, count: u16) -> u16 {
-    if count == 0 {
-        return 0;
-    }
-    n.wrapping_mul(5) % count
+    n.wrapping_mul(5).checked_rem(count).unwrap_or(0)
 }
 
 fn queue_all<P: PriceKind>(rt: &impl Abort, bench: &mut Bench<P>, count: u16) {
-    for n in 0..count {
-        let place = scattered(n, count);
+    for place in (0..count).map(|n| scattered(n, count)) {
         assert!(rt; bench.enqueue(place, key(u64::from(place % 29))));
         assert!(rt; bench.is_queued(place));
     }
 }
 
 fn rekey_thirds<P: PriceKind>(rt: &impl Abort, bench: &mut Bench<P>, count: u16) {
-    for n in 0..count {
-        let place = scattered(n, count);
-        if place % 3 == 0 {
-            assert!(rt; bench.enqueue(place, key(key_number(place))));
-        }
+    for place in (0..count)
+        .map(|n| scattered(n, count))
+        .filter(|place| place % 3 == 0)
+    {
+        assert!(rt; bench.enqueue(place, key(key_number(place))));
     }
 }
 
 fn remove_fifths<P: PriceKind>(rt: &impl Abort, bench: &mut Bench<P>, count: u16) {
-    for n in 0..count {
-        let place = scattered(n, count);
-        if place % 5 == 0 {
-            assert!(rt; bench.dequeue(place));
-            assert!(rt; !bench.dequeue(place));
-            assert!(rt; !bench.is_queued(place));
-        }
+    for place in (0..count)
+        .map(|n| scattered(n, count))
+        .filter(|place| place % 5 == 0)
+    {
+        assert!(rt; bench.dequeue(place));
+        assert!(rt; !bench.dequeue(place));
+        assert!(rt; !bench.is_queued(place));
     }
 }
 
 // Takes out what is left, by the top: keys rise, and of equal keys the numbers. Answers how many there were.
 fn drain<P: PriceKind>(rt: &impl Abort, bench: &mut Bench<P>, count: u16) -> Result<usize, Fail> {
-    let mut taken: usize = 0;
     let mut last: Option<(u64, u16)> = None;
-    for _ in 0..count {
+    for taken in 0..count {
         let Some(place) = bench.top() else {
-            return Ok(taken);
+            return Ok(usize::from(taken));
         };
         assert!(rt; place % 5 != 0);
         if let Some((number, before)) = last {
@@ -65,9 +60,8 @@ fn drain<P: PriceKind>(rt: &impl Abort, bench: &mut Bench<P>, count: u16) -> Res
         }
         last = Some((key_number(place), place));
         assert!(rt; bench.dequeue(place));
-        taken = taken.saturating_add(1);
     }
-    Ok(taken)
+    Ok(usize::from(count))
 }
 
 fn come_out_in_order<P: PriceKind>(rt: &impl Abort, heap: Global, count: u16) -> Result<(), Fail> {
@@ -77,10 +71,10 @@ fn come_out_in_order<P: PriceKind>(rt: &impl Abort, heap: Global, count: u16) ->
     queue_all(rt, &mut bench, count);
     rekey_thirds(rt, &mut bench, count);
     remove_fifths(rt, &mut bench, count);
-    let fifths = (count as usize).div_ceil(5);
-    assert_eq!(rt; drain(rt, &mut bench, count)?, count as usize - fifths);
+    let fifths = usize::from(count).div_ceil(5);
+    assert_eq!(rt; drain(rt, &mut bench, count)?, usize::from(count) - fifths);
     assert!(rt; bench.top().is_none());
-    assert_eq!(rt; bench.len(), count as usize);
+    assert_eq!(rt; bench.len(), usize::from(count));
     Ok(())
 }
 
@@ -112,22 +106,6 @@ fn as_many_places_as_a_chart_may_have(rt: HostRuntime) -> Result<(), Fail> {
     come_out_in_order::<Lift>(&rt, rt.alloc(), MOST_PLACES)
 }
 
-// Is a price there, and the n-th?
-fn is_price<P: PriceKind>(found: Option<P>, n: u64) -> bool {
-    match found {
-        Some(p) => !p.below(price(n)) && !price::<P>(n).below(p),
-        None => false,
-    }
-}
-
-// Is a key there, and the n-th?
-fn is_key<P: PriceKind>(found: Option<Key<P>>, n: u64) -> bool {
-    match found {
-        Some(k) => !k.below(key(n)) && !key::<P>(n).below(k),
-        None => false,
-    }
-}
-
 // A place past the memory is refused by every call.
 fn refuses_the_place_past_the_last<P: PriceKind>(
     rt: &impl Abort,
@@ -137,7 +115,7 @@ fn refuses_the_place_past_the_last<P: PriceKind>(
     let mut records = memory::<P>(heap, count)?;
     let mut bench = Bench::lay(&mut records, 90_210);
     assert_eq!(rt; bench.number(), 90_210);
-    assert_eq!(rt; bench.len(), count as usize);
+    assert_eq!(rt; bench.len(), usize::from(count));
     assert!(rt; bench.standing(count).is_none());
     assert!(rt; bench.lookahead(count).is_none());
     assert!(rt; bench.key(count).is_none());
@@ -155,8 +133,9 @@ fn keeps_what_is_set<P: PriceKind>(rt: &impl Abort, heap: Global) -> Result<(), 
     let mut records = memory::<P>(heap, 40)?;
     {
         let mut bench = Bench::lay(&mut records, 1);
-        assert!(rt; is_price(bench.standing(7), 7));
-        assert!(rt; is_key(bench.key(7), 3));
+        assert!(rt; bench.standing(7) == Some(price(7)));
+        assert!(rt; bench.key(7) == Some(key(3)));
+        assert!(rt; key::<P>(40).below(key(50)) && !key::<P>(50).below(key(50)));
         assert!(rt; bench.put_standing(7, price(123)));
         assert!(rt; bench.put_lookahead(7, price(99)));
         assert!(rt; bench.enqueue(7, key(50)));
@@ -164,19 +143,14 @@ fn keeps_what_is_set<P: PriceKind>(rt: &impl Abort, heap: Global) -> Result<(), 
         assert_eq!(rt; bench.top(), Some(8));
         assert!(rt; bench.enqueue(8, key(50)));
         assert_eq!(rt; bench.top(), Some(7));
-        assert!(rt; is_price(bench.standing(7), 123) && is_price(bench.standing(6), 6));
-        assert!(rt; is_price(bench.lookahead(7), 99) && !is_price(bench.lookahead(6), 99));
-        assert!(rt; is_key(bench.key(7), 50) && is_key(bench.key(6), 3));
+        assert!(rt; bench.standing(7) == Some(price(123)) && bench.standing(6) == Some(price(6)));
+        assert!(rt; bench.lookahead(7) == Some(price(99)) && bench.lookahead(6) != Some(price(99)));
+        assert!(rt; bench.key(7) == Some(key(50)) && bench.key(6) == Some(key(3)));
         bench.clear();
-        assert!(rt; bench.top().is_none() && !bench.is_queued(7) && is_key(bench.key(7), 50));
+        assert!(rt; bench.top().is_none() && !bench.is_queued(7) && bench.key(7) == Some(key(50)));
     }
-    match records.get(7) {
-        Some(record) => {
-            assert!(rt; is_price(Some(record.standing), 123));
-            Ok(())
-        },
-        None => Err(Fail::new("the record is gone")),
-    }
+    assert!(rt; records.get(7).map(|record| record.standing) == Some(price(123)));
+    Ok(())
 }
 
 #[test]

@@ -12,14 +12,6 @@ pub const CHART: [u8; 90] = [
     b'T',
 ];
 
-// Bytes to write over the chart, and what it is then refused by.
-#[derive(Clone, Copy)]
-struct Damage {
-    writes: [(usize, u8); 2],
-    cause: Cause,
-    link: Option<u16>,
-}
-
 // Where the parts of the chart begin.
 const PLACE_0_MS: usize = 6;
 
@@ -45,71 +37,57 @@ const BACK: usize = 82;
 
 const LETTERS: usize = 86;
 
-const fn damaging(writes: [(usize, u8); 2], cause: Cause, link: Option<u16>) -> Damage {
-    Damage {
-        writes,
-        cause,
-        link,
-    }
-}
+// Bytes to write over the chart, and the cause that it is then refused by and the link or place that is named, if any.
+type Damage = (&'static [(usize, u8)], Cause, Option<u16>);
 
-fn damages() -> [Damage; 27] {
-    [
-        // 1
-        damaging([(LETTERS, b'l'), (LETTERS, b'l')], Cause::NotAChart, None),
-        damaging([(LETTERS + 3, 0), (PLACES, 0)], Cause::NotAChart, None),
-        // 2
-        damaging([(PLACES, 0), (PLACES, 0)], Cause::OutsideLimits, None),
-        damaging([(PLACES, 1), (PLACES + 1, 16)], Cause::OutsideLimits, None),
-        damaging([(LINKS, 1), (LINKS + 1, 64)], Cause::OutsideLimits, None),
-        damaging([(START, 3), (START, 3)], Cause::OutsideLimits, None),
-        damaging([(GOAL, 3), (GOAL, 3)], Cause::OutsideLimits, None),
-        damaging([(BACK, 89), (BACK, 89)], Cause::OutsideLimits, None),
-        damaging([(PLACES, 4), (BACK, 96)], Cause::OutsideLimits, None),
-        damaging([(START, 3), (LINK_0, 9)], Cause::OutsideLimits, None),
-        // 4: ends
-        damaging([(LINK_1, 3), (LINK_1, 3)], Cause::BadLink, Some(1)),
-        damaging([(LINK_1 + 2, 3), (LINK_1 + 2, 3)], Cause::BadLink, Some(1)),
-        damaging([(LINK_1, 2), (LINK_1, 2)], Cause::BadLink, Some(1)),
-        damaging([(LINK_2 + 1, 1), (LINK_2 + 1, 1)], Cause::BadLink, Some(2)),
-        // 4: floor and price
-        damaging([(LINK_0 + 8, 0), (LINK_0 + 8, 0)], Cause::BadLink, Some(0)),
-        damaging([(LINK_0 + 5, 1), (LINK_0 + 7, 1)], Cause::BadLink, Some(0)),
-        damaging([(LINK_0 + 7, 1), (LINK_0 + 7, 1)], Cause::BadLink, Some(0)),
-        damaging(
-            [(LINK_0 + 10, 16), (LINK_0 + 14, 17)],
-            Cause::BadLink,
-            Some(0),
-        ),
-        damaging(
-            [(LINK_0 + 14, 16), (LINK_0 + 14, 16)],
-            Cause::BadLink,
-            Some(0),
-        ),
-        damaging([(LINK_0 + 8, 5), (LINK_0 + 8, 5)], Cause::BadLink, Some(0)),
-        // 4: the lowest, and before 5
-        damaging([(LINK_2, 2), (LINK_0, 1)], Cause::BadLink, Some(0)),
-        damaging([(LINK_2, 2), (GOAL_LIFTS, 1)], Cause::BadLink, Some(2)),
-        damaging([(LINK_2, 2), (PLACE_0_MS, 2)], Cause::BadLink, Some(2)),
-        // 5
-        damaging([(GOAL_LIFTS, 1), (GOAL_LIFTS, 1)], Cause::BadEstimate, None),
-        damaging(
-            [(PLACE_0_MS, 2), (PLACE_0_MS, 2)],
-            Cause::BadEstimate,
-            Some(0),
-        ),
-        damaging(
-            [(PLACE_1_MS, 9), (PLACE_1_MS, 9)],
-            Cause::BadEstimate,
-            Some(1),
-        ),
-        damaging([(PLACE_1_MS, 9), (GOAL_LIFTS, 1)], Cause::BadEstimate, None),
-    ]
-}
+const DAMAGES: [Damage; 27] = [
+    // 1
+    (&[(LETTERS, b'l')], Cause::NotAChart, None),
+    (&[(LETTERS + 3, 0), (PLACES, 0)], Cause::NotAChart, None),
+    // 2
+    (&[(PLACES, 0)], Cause::OutsideLimits, None),
+    (&[(PLACES, 1), (PLACES + 1, 16)], Cause::OutsideLimits, None),
+    (&[(LINKS, 1), (LINKS + 1, 64)], Cause::OutsideLimits, None),
+    (&[(START, 3)], Cause::OutsideLimits, None),
+    (&[(GOAL, 3)], Cause::OutsideLimits, None),
+    (&[(BACK, 89)], Cause::OutsideLimits, None),
+    (&[(PLACES, 4), (BACK, 96)], Cause::OutsideLimits, None),
+    (&[(START, 3), (LINK_0, 9)], Cause::OutsideLimits, None),
+    // 4: ends
+    (&[(LINK_1, 3)], Cause::BadLink, Some(1)),
+    (&[(LINK_1 + 2, 3)], Cause::BadLink, Some(1)),
+    (&[(LINK_1, 2)], Cause::BadLink, Some(1)),
+    (&[(LINK_2 + 1, 1)], Cause::BadLink, Some(2)),
+    // 4: floor and price
+    (&[(LINK_0 + 8, 0)], Cause::BadLink, Some(0)),
+    (&[(LINK_0 + 5, 1), (LINK_0 + 7, 1)], Cause::BadLink, Some(0)),
+    (&[(LINK_0 + 7, 1)], Cause::BadLink, Some(0)),
+    (
+        &[(LINK_0 + 10, 16), (LINK_0 + 14, 17)],
+        Cause::BadLink,
+        Some(0),
+    ),
+    (&[(LINK_0 + 14, 16)], Cause::BadLink, Some(0)),
+    (&[(LINK_0 + 8, 5)], Cause::BadLink, Some(0)),
+    // 4: the lowest, and before 5
+    (&[(LINK_2, 2), (LINK_0, 1)], Cause::BadLink, Some(0)),
+    (&[(LINK_2, 2), (GOAL_LIFTS, 1)], Cause::BadLink, Some(2)),
+    (&[(LINK_2, 2), (PLACE_0_MS, 2)], Cause::BadLink, Some(2)),
+    // 5
+    (&[(GOAL_LIFTS, 1)], Cause::BadEstimate, None),
+    (&[(PLACE_0_MS, 2)], Cause::BadEstimate, Some(0)),
+    (&[(PLACE_1_MS, 9)], Cause::BadEstimate, Some(1)),
+    (
+        &[(PLACE_1_MS, 9), (GOAL_LIFTS, 1)],
+        Cause::BadEstimate,
+        None,
+    ),
+];
 
-const PLACE: PlaceRecord = PlaceRecord { lifts: 77, ms: 78 };
+// A record of lent memory that no file was read into yet.
+pub const PLACE: PlaceRecord = PlaceRecord { lifts: 77, ms: 78 };
 
-const LINK: LinkRecord = LinkRecord {
+pub const LINK: LinkRecord = LinkRecord {
     from: 71,
     to: 72,
     floor_lifts: 73,
@@ -118,119 +96,72 @@ const LINK: LinkRecord = LinkRecord {
     price_ms: 76,
 };
 
-fn written(mut file: [u8; 90], at: usize, byte: u8) -> [u8; 90] {
-    if at < 90 {
-        file[at] = byte;
+// The chart with these bytes written over it.
+fn damaged(writes: &[(usize, u8)]) -> [u8; 90] {
+    let mut file = CHART;
+    for &(at, byte) in writes {
+        if let Some(place) = file.get_mut(at) {
+            *place = byte;
+        }
     }
     file
 }
 
-fn damaged(writes: [(usize, u8); 2]) -> [u8; 90] {
-    let [(a, x), (b, y)] = writes;
-    written(written(CHART, a, x), b, y)
-}
-
-fn fault(cause: Cause, link: Option<u16>) -> ChartFault {
-    ChartFault {
-        cause,
-        link,
-        height: 0,
-    }
-}
-
-// The refusal of a file, where it is one and both memories are left as they were.
-fn refusal(
+// The file is refused, and the memory lent is left as it was.
+fn check_refusal(
     rt: &impl Abort,
     file: &[u8],
     places: &mut [PlaceRecord],
     links: &mut [LinkRecord],
-) -> Result<ChartFault, Fail> {
-    let Err(fault) = read_chart(file, places, links) else {
-        return Err(Fail::new("not refused"));
-    };
-    for place in places {
-        assert_eq!(rt; *place, PLACE);
-    }
-    for link in links {
-        assert_eq!(rt; *link, LINK);
-    }
-    Ok(fault)
+    fault: ChartFault,
+) {
+    assert_eq!(rt; read_chart(file, places, links), Err(fault));
+    assert!(rt; places.iter().all(|place| *place == PLACE));
+    assert!(rt; links.iter().all(|link| *link == LINK));
 }
 
 #[test]
-fn each_damage_is_refused_by_its_number(rt: HostRuntime) -> Result<(), Fail> {
-    for damage in damages() {
-        let Damage {
-            writes,
-            cause,
-            link,
-        } = damage;
-        let mut places = [PLACE; 5];
-        let mut links = [LINK; 4];
-        assert_eq!(rt;
-            refusal(&rt, &damaged(writes), &mut places, &mut links)?,
-            fault(cause, link)
-        );
-    }
-    Ok(())
-}
-
-#[test]
-fn a_short_file_is_no_chart(rt: HostRuntime) -> Result<(), Fail> {
+fn each_damage_is_refused_by_its_number(rt: HostRuntime) {
     let mut places = [PLACE; 5];
     let mut links = [LINK; 4];
-    assert_eq!(rt;
-        refusal(&rt, &[], &mut places, &mut links)?,
-        fault(Cause::NotAChart, None)
-    );
-    assert_eq!(rt;
-        refusal(&rt, &CHART[75..90], &mut places, &mut links)?,
-        fault(Cause::NotAChart, None)
-    );
-    assert_eq!(rt;
-        refusal(&rt, &CHART[74..90], &mut places, &mut links)?,
-        fault(Cause::OutsideLimits, None)
-    );
-    assert_eq!(rt;
-        refusal(&rt, &CHART[3..90], &mut places, &mut links)?,
-        fault(Cause::OutsideLimits, None)
-    );
-    Ok(())
+    for (writes, cause, link) in DAMAGES {
+        let fault = ChartFault {
+            link,
+            ..ChartFault::of_chart(cause)
+        };
+        check_refusal(&rt, &damaged(writes), &mut places, &mut links, fault);
+    }
 }
 
 #[test]
-fn short_memory_comes_after_limits_and_before_records(rt: HostRuntime) -> Result<(), Fail> {
-    let mut places = [PLACE; 2];
+fn a_short_file_is_no_chart(rt: HostRuntime) {
+    let mut places = [PLACE; 5];
+    let mut links = [LINK; 4];
+    for (file, cause) in [
+        (&CHART[..0], Cause::NotAChart),
+        (&CHART[75..], Cause::NotAChart),
+        (&CHART[74..], Cause::OutsideLimits),
+        (&CHART[3..], Cause::OutsideLimits),
+    ] {
+        let fault = ChartFault::of_chart(cause);
+        check_refusal(&rt, file, &mut places, &mut links, fault);
+    }
+}
+
+#[test]
+fn short_memory_comes_after_limits_and_before_records(rt: HostRuntime) {
+    let mut places = [PLACE; 3];
     let mut links = [LINK; 3];
-    assert_eq!(rt;
-        refusal(&rt, &CHART, &mut places, &mut links)?,
-        fault(Cause::ShortMemory, None)
-    );
-    assert_eq!(rt;
-        refusal(
-            &rt,
-            &damaged([(LINK_1, 3), (GOAL_LIFTS, 1)]),
-            &mut places,
-            &mut links,
-        )?,
-        fault(Cause::ShortMemory, None)
-    );
-    assert_eq!(rt;
-        refusal(
-            &rt,
-            &damaged([(START, 3), (GOAL, 3)]),
-            &mut places,
-            &mut links
-        )?,
-        fault(Cause::OutsideLimits, None)
-    );
-    let mut enough = [PLACE; 3];
-    let mut few = [LINK; 2];
-    assert_eq!(rt;
-        refusal(&rt, &CHART, &mut enough, &mut few)?,
-        fault(Cause::ShortMemory, None)
-    );
-    Ok(())
+    for (file, cause) in [
+        (CHART, Cause::ShortMemory),
+        (damaged(&[(LINK_1, 3), (GOAL_LIFTS, 1)]), Cause::ShortMemory),
+        (damaged(&[(START, 3), (GOAL, 3)]), Cause::OutsideLimits),
+    ] {
+        let fault = ChartFault::of_chart(cause);
+        check_refusal(&rt, &file, &mut places[..2], &mut links, fault);
+    }
+    let short = ChartFault::of_chart(Cause::ShortMemory);
+    check_refusal(&rt, &CHART, &mut places, &mut links[..2], short);
 }
 
 #[test]
@@ -248,7 +179,7 @@ fn a_good_file_fills_the_first_records(rt: HostRuntime) -> Result<(), Fail> {
             back: 88,
         }
     );
-    let zero = PlaceRecord { lifts: 0, ms: 0 };
+    let zero = PlaceRecord::default();
     assert_eq!(rt; places, [zero, zero, zero, PLACE, PLACE]);
     assert_eq!(rt;
         links[1],
@@ -269,7 +200,7 @@ fn a_good_file_fills_the_first_records(rt: HostRuntime) -> Result<(), Fail> {
 fn a_closed_link_and_a_file_without_remarks_are_good(rt: HostRuntime) {
     let mut places = [PLACE; 3];
     let mut links = [LINK; 3];
-    let closed = damaged([(LINK_0 + 12, 0), (LINK_0 + 12, 0)]);
+    let closed = damaged(&[(LINK_0 + 12, 0)]);
     assert!(rt; read_chart(&closed[2..90], &mut places, &mut links).is_ok());
     assert_eq!(rt; links[0].price_ms, 0);
 }

@@ -12,6 +12,8 @@ mod links;
 #[cfg(test)]
 mod links_by_table;
 #[cfg(test)]
+mod one_by_one;
+#[cfg(test)]
 mod piles;
 #[cfg(test)]
 mod piles_by_table;

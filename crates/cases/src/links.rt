@@ -1,32 +1,20 @@
 // The link chart: asked everything, priced, and asked outside its tables.
-use crate::files::CHART;
-use chart::{Cause, Chart, ChartFault};
+use crate::files::{CHART, LINK, PLACE};
+use crate::prices::lift;
+use chart::{Cause, Chart, ChartFault, End, Link};
 use chart_file::{LinkRecord, PlaceRecord};
 use link_chart::LinkChart;
 use price::{Lift, PriceKind};
 use std::test::Fail;
 
-pub const PLACE: PlaceRecord = PlaceRecord { lifts: 77, ms: 78 };
-
-pub const LINK: LinkRecord = LinkRecord {
-    from: 71,
-    to: 72,
-    floor_lifts: 73,
-    price_lifts: 74,
-    floor_ms: 75,
-    price_ms: 76,
-};
-
-pub fn ms(n: u64) -> Lift {
-    Lift::from_numbers(&[0, n]).unwrap_or(Lift::Closed)
-}
-
-fn refused(cause: Cause, link: u16) -> Result<(), ChartFault> {
-    Err(ChartFault {
-        cause,
-        link: Some(link),
-        height: 0,
-    })
+// The chart of three places over lent records.
+pub fn three_places<'a>(
+    places: &'a mut [PlaceRecord],
+    links: &'a mut [LinkRecord],
+) -> Result<LinkChart<'a>, ChartFault> {
+    let mut chart = LinkChart::over(places, links);
+    chart.read(&CHART)?;
+    Ok(chart)
 }
 
 #[test]
@@ -38,28 +26,29 @@ fn a_chart_without_a_file_has_one_place(rt: HostRuntime) {
     assert_eq!(rt; chart.link_numbers(), 0);
     assert_eq!(rt; chart.estimate(0), Some(Lift::zero()));
     assert_eq!(rt; chart.estimate(1), None);
-    assert!(rt; chart.link(0).is_none());
+    assert_eq!(rt; chart.link(0), None);
 }
 
 #[test]
 fn a_chart_answers_what_its_file_says(rt: HostRuntime) -> Result<(), Fail> {
     let mut places = [PLACE; 5];
     let mut links = [LINK; 4];
-    let mut chart = LinkChart::over(&mut places, &mut links);
-    chart.read(&CHART)?;
+    let chart = three_places(&mut places, &mut links)?;
     assert_eq!(rt; chart.places(), 3);
     assert_eq!(rt; chart.start(), 0);
     assert_eq!(rt; chart.goal(), 2);
     assert_eq!(rt; chart.height(), 0);
     assert_eq!(rt; chart.link_numbers(), 3);
-    let Some(link) = chart.link(1) else {
-        return Err(Fail::new("there is a link 1"));
-    };
-    assert_eq!(rt; link.from, 1);
-    assert_eq!(rt; link.to, 2);
-    assert_eq!(rt; link.floor, ms(1));
-    assert_eq!(rt; link.price, ms(3));
-    assert_eq!(rt; link.held, 0);
+    assert_eq!(rt;
+        chart.link(1),
+        Some(Link {
+            from: 1,
+            to: 2,
+            floor: lift(0, 1),
+            price: lift(0, 3),
+            held: 0,
+        })
+    );
     Ok(())
 }
 
@@ -67,17 +56,16 @@ fn a_chart_answers_what_its_file_says(rt: HostRuntime) -> Result<(), Fail> {
 fn the_links_of_a_place_come_in_rising_order(rt: HostRuntime) -> Result<(), Fail> {
     let mut places = [PLACE; 3];
     let mut links = [LINK; 3];
-    let mut chart = LinkChart::over(&mut places, &mut links);
-    chart.read(&CHART)?;
-    assert_eq!(rt; chart.nth_into(2, 0), Some(1));
-    assert_eq!(rt; chart.nth_into(2, 1), Some(2));
-    assert_eq!(rt; chart.nth_into(2, 2), None);
-    assert_eq!(rt; chart.nth_out(0, 0), Some(0));
-    assert_eq!(rt; chart.nth_out(0, 1), Some(2));
-    assert_eq!(rt; chart.next_into(2, 2), Some(2));
-    assert_eq!(rt; chart.next_into(2, 3), None);
-    assert_eq!(rt; chart.next_out(0, 1), Some(2));
-    assert_eq!(rt; chart.next_out(9, 0), None);
+    let chart = three_places(&mut places, &mut links)?;
+    assert_eq!(rt; chart.nth_link(End::To, 2, 0), Some(1));
+    assert_eq!(rt; chart.nth_link(End::To, 2, 1), Some(2));
+    assert_eq!(rt; chart.nth_link(End::To, 2, 2), None);
+    assert_eq!(rt; chart.nth_link(End::From, 0, 0), Some(0));
+    assert_eq!(rt; chart.nth_link(End::From, 0, 1), Some(2));
+    assert_eq!(rt; chart.next_link(End::To, 2, 2), Some(2));
+    assert_eq!(rt; chart.next_link(End::To, 2, 3), None);
+    assert_eq!(rt; chart.next_link(End::From, 0, 1), Some(2));
+    assert_eq!(rt; chart.next_link(End::From, 9, 0), None);
     Ok(())
 }
 
@@ -85,12 +73,11 @@ fn the_links_of_a_place_come_in_rising_order(rt: HostRuntime) -> Result<(), Fail
 fn outside_its_tables_a_chart_answers_none(rt: HostRuntime) -> Result<(), Fail> {
     let mut places = [PLACE; 5];
     let mut links = [LINK; 4];
-    let mut chart = LinkChart::over(&mut places, &mut links);
-    chart.read(&CHART)?;
-    assert!(rt; chart.link(3).is_none());
-    assert!(rt; chart.link(65535).is_none());
+    let chart = three_places(&mut places, &mut links)?;
+    assert_eq!(rt; chart.link(3), None);
+    assert_eq!(rt; chart.link(65535), None);
     assert_eq!(rt; chart.estimate(3), None);
-    assert_eq!(rt; chart.nth_into(3, 0), None);
+    assert_eq!(rt; chart.nth_link(End::To, 3, 0), None);
     assert_eq!(rt; chart.largest(2), None);
     Ok(())
 }
@@ -99,19 +86,21 @@ fn outside_its_tables_a_chart_answers_none(rt: HostRuntime) -> Result<(), Fail> 
 fn prices_are_set_or_refused(rt: HostRuntime) -> Result<(), Fail> {
     let mut places = [PLACE; 3];
     let mut links = [LINK; 3];
-    let mut chart = LinkChart::over(&mut places, &mut links);
-    chart.read(&CHART)?;
-    assert_eq!(rt; chart.set_price(3, ms(4)), refused(Cause::NoLink, 3));
-    assert_eq!(rt; chart.set_price(1, ms(0)), refused(Cause::BadPrice, 1));
+    let mut chart = three_places(&mut places, &mut links)?;
     assert_eq!(rt;
-        chart.set_price(1, ms(1_000_001)),
-        refused(Cause::BadPrice, 1)
+        chart.set_price(3, lift(0, 4)),
+        Err(ChartFault::at_link(Cause::NoLink, 3))
+    );
+    assert_eq!(rt;
+        chart.set_price(1, lift(0, 0)),
+        Err(ChartFault::at_link(Cause::BadPrice, 1))
+    );
+    assert_eq!(rt;
+        chart.set_price(1, lift(0, 1_000_001)),
+        Err(ChartFault::at_link(Cause::BadPrice, 1))
     );
     assert_eq!(rt; chart.set_price(1, Lift::Closed), Ok(()));
-    let Some(link) = chart.link(1) else {
-        return Err(Fail::new("there is a link 1"));
-    };
-    assert_eq!(rt; link.price, Lift::Closed);
-    assert_eq!(rt; chart.set_price(1, ms(1)), Ok(()));
+    assert_eq!(rt; chart.link(1).map(|link| link.price), Some(Lift::Closed));
+    assert_eq!(rt; chart.set_price(1, lift(0, 1)), Ok(()));
     Ok(())
 }

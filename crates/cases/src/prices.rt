@@ -1,13 +1,15 @@
 // Prices at their edges: the ceiling, the largest numbers of a link, closed.
 use price::{Lift, PriceKind, Time};
+use std::fmt::Debug;
+use std::process::Abort;
 
 const LAST: u64 = (1 << 40) - 1;
 
-fn time(ms: u64) -> Time {
+pub fn time(ms: u64) -> Time {
     Time::from_numbers(&[ms]).unwrap_or(Time::Closed)
 }
 
-fn lift(lifts: u64, ms: u64) -> Lift {
+pub fn lift(lifts: u64, ms: u64) -> Lift {
     Lift::from_numbers(&[lifts, ms]).unwrap_or(Lift::Closed)
 }
 
@@ -23,39 +25,92 @@ fn numbers_stay_below_the_ceiling(rt: HostRuntime) {
     assert!(rt; Lift::from_numbers(&[0]).is_none());
 }
 
+// The sums of pairs of prices, either way round.
+fn check_sums<P: PriceKind + Debug>(rt: &impl Abort, rows: &[(P, P, P)]) {
+    for &(one, other, sum) in rows {
+        assert_eq!(rt; one.plus(other), sum);
+        assert_eq!(rt; other.plus(one), sum);
+    }
+}
+
 #[test]
 fn a_sum_that_reaches_the_ceiling_is_closed(rt: HostRuntime) {
-    assert_eq!(rt; time(LAST - 1).plus(time(1)), time(LAST));
-    assert_eq!(rt; time(LAST).plus(time(1)), Time::Closed);
-    assert_eq!(rt; time(LAST).plus(time(LAST)), Time::Closed);
-    assert_eq!(rt; time(7).plus(Time::Closed), Time::Closed);
-    assert_eq!(rt; Time::Closed.plus(time(0)), Time::Closed);
-    assert_eq!(rt; lift(1, LAST).plus(lift(1, 1)), Lift::Closed);
-    assert_eq!(rt; lift(LAST, 1).plus(lift(1, 1)), Lift::Closed);
-    assert_eq!(rt; lift(1, 2).plus(lift(3, 4)), lift(4, 6));
+    check_sums(
+        &rt,
+        &[
+            (time(LAST - 1), time(1), time(LAST)),
+            (time(LAST), time(1), Time::Closed),
+            (time(LAST), time(LAST), Time::Closed),
+            (time(7), Time::Closed, Time::Closed),
+            (Time::Closed, time(0), Time::Closed),
+        ],
+    );
+    check_sums(
+        &rt,
+        &[
+            (lift(1, LAST), lift(1, 1), Lift::Closed),
+            (lift(LAST, 1), lift(1, 1), Lift::Closed),
+            (lift(1, 2), lift(3, 4), lift(4, 6)),
+        ],
+    );
+}
+
+// Is the first price of each pair the smaller one? The derived order says the same.
+fn check_order<P: PriceKind>(rt: &impl Abort, rows: &[(P, P, bool)]) {
+    for &(one, other, below) in rows {
+        assert_eq!(rt; one.below(other), below);
+        assert_eq!(rt; one < other, below);
+    }
 }
 
 #[test]
 fn the_first_difference_decides(rt: HostRuntime) {
-    assert!(rt; time(3).below(time(4)));
-    assert!(rt; !time(4).below(time(4)));
-    assert!(rt; time(LAST).below(Time::Closed));
-    assert!(rt; !Time::Closed.below(Time::Closed));
-    assert!(rt; lift(0, 9).below(lift(1, 0)));
-    assert!(rt; !lift(1, 0).below(lift(0, 9)));
-    assert!(rt; lift(1, 0).below(lift(1, 1)));
-    assert!(rt; !Lift::Closed.below(lift(0, 0)));
+    check_order(
+        &rt,
+        &[
+            (time(3), time(4), true),
+            (time(4), time(4), false),
+            (time(LAST), Time::Closed, true),
+            (Time::Closed, Time::Closed, false),
+        ],
+    );
+    check_order(
+        &rt,
+        &[
+            (lift(0, 9), lift(1, 0), true),
+            (lift(1, 0), lift(0, 9), false),
+            (lift(1, 0), lift(1, 1), true),
+            (Lift::Closed, lift(0, 0), false),
+        ],
+    );
+}
+
+// May a link have each of these prices?
+fn check_fits<P: PriceKind>(rt: &impl Abort, rows: &[(P, bool)]) {
+    for &(price, fits) in rows {
+        assert_eq!(rt; price.fits_link(), fits);
+    }
 }
 
 #[test]
 fn a_link_keeps_the_largest_numbers(rt: HostRuntime) {
-    assert!(rt; time(1_000_000).fits_link());
-    assert!(rt; !time(1_000_001).fits_link());
-    assert!(rt; Time::Closed.fits_link());
-    assert!(rt; lift(255, 1_000_000).fits_link());
-    assert!(rt; !lift(256, 0).fits_link());
-    assert!(rt; !lift(0, 1_000_001).fits_link());
-    assert!(rt; Lift::Closed.fits_link());
+    check_fits(
+        &rt,
+        &[
+            (time(1_000_000), true),
+            (time(1_000_001), false),
+            (Time::Closed, true),
+        ],
+    );
+    check_fits(
+        &rt,
+        &[
+            (lift(255, 1_000_000), true),
+            (lift(256, 0), false),
+            (lift(0, 1_000_001), false),
+            (Lift::Closed, true),
+        ],
+    );
 }
 
 #[test]

@@ -3,3 +3,4 @@ pub mod Least
 pub mod Limits
 pub mod Chains
 pub mod Prices
+pub mod Rising

@@ -4,3 +4,4 @@ pub mod Refusals
 pub mod Lawful
 pub mod Routes
 pub mod Limits
+pub mod Links

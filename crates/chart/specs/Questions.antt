@@ -1,6 +1,8 @@
 -- What a chart answers when it is asked.
-use Rattle.std.specs.Prelude.{◌≡◌, ℕ, suc, ◌<◌, ◌≤◌, Bool, true, false, cond, List, [], ◌∷◌, length, Some, None, Option, ◌==◌, slice_index_or}
+use Rattle.std.specs.Prelude.{◌≡◌, ℕ, suc, ◌<◌, ◌≤◌, Bool, true, false, cond, List, [], ◌∷◌, length, drop, Some, None, Option, ◌==◌, slice_index_or}
 use Rattle.rows.specs.Rows.{Price}
+use Rattle.chart.specs.declared.end.End.{End}
+use Rattle.chart.specs.declared.end.End.TheVariants.{From, To}
 use Rattle.chart.specs.declared.link.Link.{Link as Answer}
 use Rattle.chart.specs.Meaning.{Link, Meaning}
 
@@ -27,6 +29,24 @@ into m p = numbers_from (leads_into p) 0 m.links
 
 abbrev pub out_of : Meaning → ℕ → List ℕ
 out_of m p = numbers_from (leads_out p) 0 m.links
+
+-- the end that is this one when the link leads the other way
+abbrev pub opposite : End → End
+opposite From = To
+opposite To = From
+
+-- a link has this end at a place
+abbrev pub leads_at : End → ℕ → Option Link → Bool
+leads_at From = leads_out
+leads_at To = leads_into
+
+-- the numbers of the links with this end at a place: `out_of` or `into`
+abbrev pub numbers_at : End → Meaning → ℕ → List ℕ
+numbers_at end m p = numbers_from (leads_at end p) 0 m.links
+
+-- those of them from k on
+abbrev pub numbers_left : End → Meaning → ℕ → ℕ → List ℕ
+numbers_left end m p k = numbers_from (leads_at end p) k (drop k m.links)
 
 -- the answer is the lowest link number, from k on, that passes a test; none if there is none
 abbrev pub Next : (Option Link → Bool) → List (Option Link) → ℕ → Option ℕ → Type 0

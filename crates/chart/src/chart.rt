@@ -2,11 +2,12 @@
 ghost use Rattle.std.specs.Prelude.{◌≡◌, true, length, is_err};
 ghost use Rattle.chart.specs.Lawful.{Lawful};
 ghost use Rattle.chart.specs.Meaning.{Meaning, link_at, places as place_count, priced};
-ghost use Rattle.chart.specs.Questions.{Next, answered, into, leads_into, leads_out, out_of};
-ghost use Rattle.chart.specs.Refusals.{refusal, refusal_at, refused, told, unless};
+ghost use Rattle.chart.specs.Questions.{Next, answered, leads_at, numbers_at};
+ghost use Rattle.chart.specs.Refusals.{refusal, refusal_at, refused, unless};
 ghost use Rattle.std.specs.Option.{option_map};
 ghost use Rattle.std.specs.List.{slice_get};
 
+use crate::end::End;
 use crate::fault::{Cause, ChartFault};
 use crate::link::Link;
 use price::PriceKind;
@@ -39,82 +40,81 @@ pub trait Chart {
 
     // The link that a number names.
     fn link(&self, number: u16) -> Option<Link<Self::Price>>
-        ensures answer { option_map (answered Self.Price.PriceKind.value) result ≡ link_at (meaning self.now) number }
-        ensures kind { (meaning self.now).kind ≡ Self.Price.PriceKind.kind };
+        ensures { option_map (answered Self.Price.PriceKind.value) result ≡ link_at (meaning self.now) number };
 
     // The estimate of a place.
     fn estimate(&self, place: u16) -> Option<Self::Price>
-        ensures answer { option_map Self.Price.PriceKind.value result ≡ slice_get (meaning self.now).estimates place }
-        ensures kind { (meaning self.now).kind ≡ Self.Price.PriceKind.kind };
+        ensures { option_map Self.Price.PriceKind.value result ≡ slice_get (meaning self.now).estimates place };
 
-    // The n-th link number into a place, in rising order, n from 0.
-    fn nth_into(&self, place: u16, n: u16) -> Option<u16>
-        ensures { result ≡ slice_get (into (meaning self.now) place) n };
+    // The n-th number of the links with this end at a place, in rising order, n from 0. `LinksAt` would say it shorter, but
+    // a body of the trait cannot pass `Self` where a chart with all laws is asked.
+    fn nth_link(&self, end: End, place: u16, n: u16) -> Option<u16>
+        ensures { result ≡ slice_get (numbers_at end (meaning self.now) place) n }
+    {
+        let mut number = self.next_link(end, place, 0)?;
+        for _ in 0..n {
+            number = self.next_link(end, place, number + 1)?;
+        }
+        Some(number)
+    }
 
-    // The n-th link number out of a place.
-    fn nth_out(&self, place: u16, n: u16) -> Option<u16>
-        ensures { result ≡ slice_get (out_of (meaning self.now) place) n };
-
-    // The lowest link number into a place, from a number on.
-    fn next_into(&self, place: u16, from: u16) -> Option<u16>
-        ensures { Next (leads_into place) (meaning self.now).links from result };
-
-    // The lowest link number out of a place, from a number on.
-    fn next_out(&self, place: u16, from: u16) -> Option<u16>
-        ensures { Next (leads_out place) (meaning self.now).links from result };
+    // The lowest number, from a number on, of the links with this end at a place.
+    fn next_link(&self, end: End, place: u16, from: u16) -> Option<u16>
+        ensures { Next (leads_at end place) (meaning self.now).links from result };
 
     fn row_length(&self) -> usize
-        ensures { result ≡ (meaning self.now).kind.long };
+        ensures { result ≡ (meaning self.now).kind.long }
+    {
+        Self::Price::row_length()
+    }
 
     fn ceiling(&self) -> u64
-        ensures { result ≡ (meaning self.now).kind.ceiling };
+        ensures { result ≡ (meaning self.now).kind.ceiling }
+    {
+        Self::Price::ceiling()
+    }
 
     // The largest number of a link at a position of its row, from 0.
     fn largest(&self, position: usize) -> Option<u64>
-        ensures { result ≡ slice_get (meaning self.now).kind.largest position };
+        ensures { result ≡ slice_get (meaning self.now).kind.largest position }
+    {
+        Self::Price::largest(position)
+    }
+
+    // May a link be set to this price? Nothing changes.
+    fn check_price(&self, link: u16, price: Self::Price) -> Result<(), ChartFault>
+        ensures { refused result ≡ refusal (meaning self.now) link (Self.Price.PriceKind.value price) }
+    {
+        check_link_price(link, self.link(link), price)
+    }
 
     // Sets the price of one link. A refusal leaves everything as it was.
     fn set_price(&mut self, link: u16, price: Self::Price) -> Result<(), ChartFault>
         ensures answer { refused result ≡ refusal (meaning self.old) link (Self.Price.PriceKind.value price) }
         ensures after { meaning self.new ≡ unless (refusal (meaning self.old) link (Self.Price.PriceKind.value price)) (meaning self.old) (priced (meaning self.old) link (Self.Price.PriceKind.value price)) }
         ensures same { is_err result ≡ true → self.new ≡ self.old };
+
+    // its prices are of one kind, that of their type
+    ghost priced_in: { (x : Self) → (meaning x).kind ≡ Self.Price.PriceKind.kind };
 }
 
-// What setting a price would be refused by, at the link that a number names, if it names one.
-pub fn price_refusal<P: PriceKind>(
+// May a link have another price? The link is the one that the number names, if it names one.
+pub fn check_link_price<P: PriceKind>(
     number: u16,
     link: Option<Link<P>>,
     price: P,
-) -> Option<ChartFault>
-    ensures { option_map told result ≡ refusal_at P.PriceKind.kind (option_map (answered P.PriceKind.value) link) number (P.PriceKind.value price) }
+) -> Result<(), ChartFault>
+    ensures { refused result ≡ refusal_at P.PriceKind.kind (option_map (answered P.PriceKind.value) link) number (P.PriceKind.value price) }
 {
-    let Some(link) = link else {
-        return Some(ChartFault {
-            cause: Cause::NoLink,
-            link: Some(number),
-            height: 0,
-        });
-    };
+    let link = link.ok_or(ChartFault::at_link(Cause::NoLink, number))?;
     if link.held != 0 {
-        return Some(ChartFault {
-            cause: Cause::Held,
-            link: Some(number),
+        return Err(ChartFault {
             height: link.held,
+            ..ChartFault::at_link(Cause::Held, number)
         });
     }
-    if price.below(link.floor) || !price.fits_link() {
-        return Some(ChartFault {
-            cause: Cause::BadPrice,
-            link: Some(number),
-            height: 0,
-        });
+    if price < link.floor || !price.fits_link() {
+        return Err(ChartFault::at_link(Cause::BadPrice, number));
     }
-    None
-}
-
-// What setting this price would be refused by. Nothing changes.
-pub fn refusal_of<C: Chart>(chart: &C, link: u16, price: C::Price) -> Option<ChartFault>
-    ensures { option_map told result ≡ refusal (C.Chart.meaning chart.now) link (C.Price.PriceKind.value price) }
-{
-    price_refusal(link, chart.link(link), price)
+    Ok(())
 }

@@ -1,86 +1,68 @@
 // Why a chart refuses.
-ghost use Rattle.std.specs.Prelude.{◌≡◌};
-ghost use Rattle.chart.specs.Refusals.{number};
+ghost use Rattle.std.specs.Prelude.{◌≡◌, Some, None};
+ghost use Rattle.chart.specs.Refusals.{number, told};
 
-use std::fmt;
+use thiserror::Error;
 
-// What is wrong. `number` gives each cause the number by which a person knows it.
-#[derive(Clone, Copy, PartialEq, Eq, Debug)]
+// What is wrong, as a person is told in one line. `number` gives each cause the number by which a person knows it.
+#[derive(Clone, Copy, PartialEq, Eq, Debug, Error)]
 pub enum Cause {
-    // 1: the file is too short or does not end in LAST
-    NotAChart,
-    // 2: a size, count, place, least step or length is outside its limits
-    OutsideLimits,
-    // 3: a guard has no room for one more place
-    GuardFull,
-    // 4: a link record breaks a rule
-    BadLink,
-    // 5: the goal's estimate is not zero, or an estimate is too high along a link
-    BadEstimate,
-    // 6: the number names no link
-    NoLink,
-    // 7: the link is held
-    Held,
-    // 8: the price is below the floor, or a number of it is too large
-    BadPrice,
-    // 9: the lent memory is too short
-    ShortMemory,
+    #[error("the file is shorter than 16 bytes or does not end in LAST")]
+    NotAChart = 1,
+    #[error("a size, count, place, least step or length is outside its limits")]
+    OutsideLimits = 2,
+    #[error("a guard lists 64 places at most")]
+    GuardFull = 3,
+    #[error("a link joins two different places of the chart, its floor is above zero, its price is closed or at least the floor, and neither has more than 255 lifts or 1000000 ms")]
+    BadLink = 4,
+    #[error("the goal's estimate is zero, and along a link no estimate is above the link's floor plus the estimate at its end")]
+    BadEstimate = 5,
+    #[error("there is no link of that number")]
+    NoLink = 6,
+    #[error("the link is held closed")]
+    Held = 7,
+    #[error("a price is closed, or at least the link's floor with no number above the largest")]
+    BadPrice = 8,
+    #[error("the memory lent is too short")]
+    ShortMemory = 9,
 }
 
 impl Cause {
     pub fn number(self) -> u8
         ensures { result ≡ number self }
     {
-        match self {
-            Cause::NotAChart => 1,
-            Cause::OutsideLimits => 2,
-            Cause::GuardFull => 3,
-            Cause::BadLink => 4,
-            Cause::BadEstimate => 5,
-            Cause::NoLink => 6,
-            Cause::Held => 7,
-            Cause::BadPrice => 8,
-            Cause::ShortMemory => 9,
-        }
+        self as u8
     }
 }
 
 // A chart's refusal: its cause, the link that it is about, and the height of the layer that refused.
-#[derive(Clone, Copy, PartialEq, Eq, Debug)]
+#[derive(Clone, Copy, PartialEq, Eq, Debug, Error)]
+#[error("{cause}")]
 pub struct ChartFault {
     pub cause: Cause,
     pub link: Option<u16>,
     pub height: u8,
 }
 
-// What a person is told, in one line.
-impl fmt::Display for Cause {
-    fn fmt<W: fmt::Write>(&self, f: &mut fmt::Formatter<W>) -> fmt::Result {
-        match self {
-            Cause::NotAChart => write!(
-                f,
-                "the file is shorter than 16 bytes or does not end in LAST"
-            ),
-            Cause::OutsideLimits => write!(
-                f,
-                "a size, count, place, least step or length is outside its limits"
-            ),
-            Cause::GuardFull => write!(f, "a guard lists 64 places at most"),
-            Cause::BadLink => write!(
-                f,
-                "a link joins two different places of the chart, its floor is above zero, its price is closed or at least the floor, and neither has more than 255 lifts or 1000000 ms"
-            ),
-            Cause::BadEstimate => write!(
-                f,
-                "the goal's estimate is zero, and along a link no estimate is above the link's floor plus the estimate at its end"
-            ),
-            Cause::NoLink => write!(f, "there is no link of that number"),
-            Cause::Held => write!(f, "the link is held closed"),
-            Cause::BadPrice => write!(
-                f,
-                "a price is closed, or at least the link's floor with no number above the largest"
-            ),
-            Cause::ShortMemory => write!(f, "the memory lent is too short"),
+impl ChartFault {
+    // A refusal by a bare chart, about the whole of it.
+    pub fn of_chart(cause: Cause) -> ChartFault
+        ensures { told result ≡ record { by = number cause; link = None; height = 0 } }
+    {
+        ChartFault {
+            cause,
+            link: None,
+            height: 0,
+        }
+    }
+
+    // A refusal by a bare chart, about one link.
+    pub fn at_link(cause: Cause, link: u16) -> ChartFault
+        ensures { told result ≡ record { by = number cause; link = Some link; height = 0 } }
+    {
+        ChartFault {
+            link: Some(link),
+            ..ChartFault::of_chart(cause)
         }
     }
 }

@@ -2,7 +2,7 @@
 
 // link: an edge. `floor` is the least price that it may be set to, `held` is 0 or the height of the layer that
 // holds it closed.
-#[derive(Clone, Copy)]
+#[derive(Clone, Copy, PartialEq, Eq, Debug)]
 pub struct Link<P> {
     pub from: u16,
     pub to: u16,

@@ -1,26 +1,16 @@
 -- Records that keep the rules are a lawful chart.
-use Rattle.std.proofs.Common.{◌≡◌, ℕ, ◌^◌, ◌<◌, ◌≤◌, true, eqb, List, map, length, Some, None, Option, sym, refl, ◌∙◌, subst, ⊎_elim, arith, lit≤}
+use Rattle.std.proofs.Common.{◌≡◌, ℕ, ◌<◌, ◌≤◌, eqb, List, map, length, Some, None, Option, sym, refl, ◌∙◌, subst, ⊎_elim, arith, lit≤}
 use Rattle.std.proofs.lemmas.List.{get_or-map, get_or_past, length-map}
 use Rattle.std.proofs.lemmas.Bool.{and_parts, cases_lt, eqb-true, not-true}
 use Rattle.rows.specs.Rows.{closed, less, sum, zero_of}
 use Rattle.price.specs.Kinds.{lift_kind}
 use Rattle.chart.specs.Lawful.{Consistent, EstimateLaw, Lawful, LawfulLink, LinkLaw}
 use Rattle.chart.specs.Meaning.{Link, estimate_at, link_at}
-use Rattle.chart_file.specs.Checks.{goal_is_zero}
-use Rattle.chart_file.specs.Records.{link_in, no_link, no_place, place_in, estimate_of, floor_of, keeps_estimate, keeps_rules, lifts_ms, link_of, records_mean}
+use Rattle.chart_file.specs.Records.{link_in, no_link, no_place, place_in, estimate_of, floor_of, lifts_ms, link_of, records_mean}
 use Rattle.chart_file.specs.declared.records.LinkRecord.{LinkRecord}
 use Rattle.chart_file.specs.declared.records.PlaceRecord.{PlaceRecord}
+use Rattle.chart_file.specs.Rules.{Rules}
 use Rattle.chart_file.proofs.Ruled.{ruled}
-
-pub record Rules (start goal : ℕ) (ps : List PlaceRecord) (ls : List LinkRecord) : Type 0 where
-  pub places_few : length ps ≤ 4096
-  pub start_in : start < length ps
-  pub goal_in : goal < length ps
-  pub links_few : length ls ≤ 16384
-  pub small : (p : ℕ) → p < length ps → ((place_in ps p).lifts < 2 ^ 32) × ((place_in ps p).ms < 2 ^ 32)
-  pub ruled : (n : ℕ) → n < length ls → keeps_rules (length ps) (link_in ls n) ≡ true
-  pub goal_zero : goal_is_zero (place_in ps goal) ≡ true
-  pub estimates : (n : ℕ) → n < length ls → keeps_estimate (estimate_of (place_in ps (link_in ls n).from)) (estimate_of (place_in ps (link_in ls n).to)) (link_in ls n) ≡ true
 
 module _ (start goal : ℕ) (ps : List PlaceRecord) (ls : List LinkRecord) (R : Rules start goal ps ls) where
   estimate_is : (p : ℕ) → p < length ps → estimate_at (records_mean start goal ps ls) p ≡ estimate_of (place_in ps p)
@@ -59,7 +49,7 @@ module _ (start goal : ℕ) (ps : List PlaceRecord) (ls : List LinkRecord) (R : 
       let r = link_in ls n in
       let law = law_at n l in
       (λ i. less (sum lift_kind (floor_of r) (estimate_is r.to law.to_in i)) (estimate_is r.from law.from_in i))
-      ∙ not-true (less (sum lift_kind (floor_of r) (estimate_of (place_in ps r.to))) (estimate_of (place_in ps r.from))) (R.estimates n l)
+      ∙ not-true (less (sum lift_kind (floor_of r) (estimate_of (place_in ps r.to))) (estimate_of (place_in ps r.from))) (R.estimated n l)
 
   pub records_lawful : Lawful (records_mean start goal ps ls)
   records_lawful = record {

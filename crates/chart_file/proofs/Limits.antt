@@ -1,5 +1,6 @@
 -- What follows where nothing is refused.
-use Rattle.std.proofs.Common.{◌≡◌, ℕ, ◌+◌, ◌*◌, ◌<◌, ◌≤◌, Bool, true, false, ◌&&◌, eqb, ltb, leb, Some, None, Option, refl, arith}
+use Rattle.std.proofs.Common.{◌≡◌, ℕ, ◌+◌, ◌-◌, ◌*◌, ◌<◌, ◌≤◌, Bool, true, false, ◌&&◌, eqb, ltb, leb, Some, None, Option, refl, arith}
+use Rattle.std.proofs.Math.Nat.{mul-le-mul_left}
 use Rattle.std.proofs.lemmas.Bool.{and_parts, eqb-true, leb-true, ltb-true}
 use Rattle.chart.specs.Refusals.{Refusal}
 use Rattle.chart_file.specs.Checks.{at_link, in_limits, or_else, require}
@@ -8,15 +9,15 @@ use Rattle.chart_file.specs.declared.trailer.Trailer.{Trailer}
 -- no refusal means that no part refuses
 pub both_none : (a b : Option Refusal) → or_else a b ≡ None → (a ≡ None) × (b ≡ None)
 both_none None b e = (refl, e)
-both_none (Some r) b e = let z : ◌≡◌ {A = ℕ} 0 1 = cc in absurd (omega arith)
+both_none (Some r) b e = cc
 
 pub required : (b : Bool) (r : Refusal) → require b r ≡ None → b ≡ true
 required true r e = refl
-required false r e = let z : ◌≡◌ {A = ℕ} 0 1 = cc in absurd (omega arith)
+required false r e = cc
 
 pub unlinked : (by : ℕ) (o : Option ℕ) → at_link by o ≡ None → o ≡ None
 unlinked by None e = refl
-unlinked by (Some n) e = let z : ◌≡◌ {A = ℕ} 0 1 = cc in absurd (omega arith)
+unlinked by (Some n) e = cc
 
 -- the trailer's limits, as orders of numbers
 pub record Within (t : Trailer) (bytes : ℕ) : Type 0 where
@@ -48,3 +49,9 @@ within t bytes h =
       fits = eqb-true t.back (8 * t.places + 16 * t.links + 16) f.0;
       inside = leb-true t.back bytes f.1;
     }
+
+-- a record of a table that ends before the trailer lies inside the file
+pub lies_inside : (t : Trailer) (bytes offset size count n : ℕ) → in_limits t bytes ≡ true →
+    offset + size * count ≤ 8 * t.places + 16 * t.links → n < count → offset + (bytes - t.back) + size * n + size ≤ bytes
+lies_inside t bytes offset size count n h i l =
+    let w = within t bytes h in omega (arith, w.fits, w.inside, mul-le-mul_left {m = n + 1} {n = count} size (omega arith))

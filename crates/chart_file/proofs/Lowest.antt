@@ -22,7 +22,7 @@ module _ {A : Type 0} (test : A → Bool) (d : A) where
 
   no_none : (o : Option ℕ) → option_map suc o ≡ None → o ≡ None
   no_none None e = refl
-  no_none (Some n) e = let z : ◌≡◌ {A = ℕ} 0 1 = cc in absurd (omega arith)
+  no_none (Some n) e = cc
 
   holds : (xs : List A) → lowest_failing test xs ≡ None → (k : ℕ) → k < length xs → test (get_or xs k d) ≡ true
   holds [] e k l = absurd (omega arith)
@@ -33,7 +33,7 @@ module _ {A : Type 0} (test : A → Bool) (d : A) where
           (k : ℕ) → k < suc (length xs) → test (get_or (x ∷ xs) k d) ≡ true
       go true t e rest zero l = t
       go true t e rest (suc k) l = rest (no_none (lowest_failing test xs) e) k (omega arith)
-      go false t e rest k l = let z : ◌≡◌ {A = ℕ} 0 1 = cc in absurd (omega arith)
+      go false t e rest k l = cc
 
 -- the same of the records f 0, f 1, .. below a count
 module _ {A : Type 0} (test : A → Bool) (f : ℕ → A) (count : ℕ) where

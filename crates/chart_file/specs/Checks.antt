@@ -1,5 +1,5 @@
 -- Why a chart file is refused, if it is: one definition over all its records.
-use Rattle.std.specs.Prelude.{◌≡◌, ℕ, suc, ◌+◌, ◌*◌, ◌≤◌, Bool, true, false, cond, ◌&&◌, List, [], ◌∷◌, ◌++◌, length, drop, Some, None, Option, ◌==◌, nat_le, nat_lt}
+use Rattle.std.specs.Prelude.{◌≡◌, ℕ, suc, ◌+◌, ◌*◌, ◌≤◌, Bool, true, false, cond, ◌&&◌, List, [], ◌∷◌, length, Some, None, Option, ◌==◌, nat_le, nat_lt}
 use Rattle.rows.specs.Rows.{Price}
 use Rattle.chart.specs.Refusals.{Refusal, unless}
 use Rattle.std.specs.Option.{option_map}
@@ -7,7 +7,7 @@ use Rattle.chart_file.specs.declared.records.LinkRecord.{LinkRecord}
 use Rattle.chart_file.specs.declared.records.PlaceRecord.{PlaceRecord}
 use Rattle.chart_file.specs.declared.trailer.Trailer.{Trailer}
 use Rattle.chart_file.specs.Records.{estimate_of, keeps_estimate, keeps_rules}
-use Rattle.chart_file.specs.File.{is_chart, link_records, place_record, trailer_of}
+use Rattle.chart_file.specs.File.{Layout, filled, is_chart, link_records, place_record, trailer_of}
 
 -- 1 to 4,096 places, at most 16,384 links, start and goal among the places, and a length back that fits both the
 -- counts and the file
@@ -80,8 +80,8 @@ pub record Passed (file : List ℕ) (place_room link_room : ℕ) (t : Trailer) :
   pub links_fit : t.links ≤ link_room
   pub records : records_refusal file ≡ None
 
--- memory after the records of a file were copied over its first, as many as the file counts; as it was where the file
--- has no trailer within the limits, or there is no room
-abbrev pub copied : {X : Type 0} → List ℕ → ℕ → List X → List X → List X
-copied file count rs memory =
-    unless (or_else (trailer_refusal file) (require (nat_le count (length memory)) (refuse 9 None))) memory (rs ++ drop count memory)
+-- memory after the records of a file were copied over its first; as it was where the file has no trailer within the
+-- limits, or there is no room
+abbrev pub copied : {A : Type 0} → Layout A → List ℕ → List A → List A
+copied l file memory =
+    unless (or_else (trailer_refusal file) (require (nat_le (l.count (trailer_of file)) (length memory)) (refuse 9 None))) memory (filled l file memory)

@@ -1,5 +1,5 @@
 -- Where the parts of a chart file lie. Numbers are unsigned, low byte first.
-use Rattle.std.specs.Prelude.{ℕ, ◌+◌, ◌-◌, ◌*◌, Bool, ◌&&◌, List, map, length, take, ◌==◌, nat_le, slice_index}
+use Rattle.std.specs.Prelude.{ℕ, ◌+◌, ◌-◌, ◌*◌, Bool, ◌&&◌, List, map, ◌++◌, length, take, drop, ◌==◌, nat_le, slice_index}
 use Rattle.std.specs.List.{range_with_len}
 use Rattle.chart.specs.Meaning.{Meaning}
 use Rattle.chart_file.specs.declared.records.LinkRecord.{LinkRecord}
@@ -34,9 +34,6 @@ trailer_of file = record {
 abbrev pub first_place : List ℕ → ℕ
 first_place file = length file - (trailer_of file).back
 
-abbrev pub first_link : List ℕ → ℕ
-first_link file = first_place file + 8 * (trailer_of file).places
-
 -- lifts, milliseconds
 abbrev pub place_at : List ℕ → ℕ → PlaceRecord
 place_at file at = record { lifts = four_bytes file at; ms = four_bytes file (at + 4) }
@@ -52,17 +49,43 @@ link_at file at = record {
   price_ms = four_bytes file (at + 12);
 }
 
+-- how the records of one type lie: the bytes of each, how many there are, the bytes from the first place record to the
+-- first of these, and the record whose bytes begin at an offset of the file
+pub record Layout (A : Type 0) : Type 0 where
+  pub size : ℕ
+  pub count : Trailer → ℕ
+  pub offset : Trailer → ℕ
+  pub at : List ℕ → ℕ → A
+
+-- the record of a number
+abbrev pub record_of : {A : Type 0} → Layout A → List ℕ → ℕ → A
+record_of l file n = l.at file (l.offset (trailer_of file) + first_place file + l.size * n)
+
+-- all of them, as many as the trailer counts
+abbrev pub records_of : {A : Type 0} → Layout A → List ℕ → List A
+records_of l file = map (record_of l file) (range_with_len 0 (l.count (trailer_of file)))
+
+-- a memory whose first records are those of the file; what lies past them is as it was
+abbrev pub filled : {A : Type 0} → Layout A → List ℕ → List A → List A
+filled l file memory = records_of l file ++ drop (l.count (trailer_of file)) memory
+
+abbrev pub place_layout : Layout PlaceRecord
+place_layout = record { size = 8; count = λ t. t.places; offset = λ t. 0; at = place_at }
+
+abbrev pub link_layout : Layout LinkRecord
+link_layout = record { size = 16; count = λ t. t.links; offset = λ t. 8 * t.places; at = link_at }
+
 abbrev pub place_record : List ℕ → ℕ → PlaceRecord
-place_record file n = place_at file (first_place file + 8 * n)
+place_record = record_of place_layout
 
 abbrev pub link_record : List ℕ → ℕ → LinkRecord
-link_record file n = link_at file (first_link file + 16 * n)
+link_record = record_of link_layout
 
 abbrev pub place_records : List ℕ → List PlaceRecord
-place_records file = map (place_record file) (range_with_len 0 (trailer_of file).places)
+place_records = records_of place_layout
 
 abbrev pub link_records : List ℕ → List LinkRecord
-link_records file = map (link_record file) (range_with_len 0 (trailer_of file).links)
+link_records = records_of link_layout
 
 -- the chart of memory that was filled: its first records, as many as the trailer counts
 abbrev pub trailer_mean : Trailer → List PlaceRecord → List LinkRecord → Meaning

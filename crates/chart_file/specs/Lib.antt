@@ -1,3 +1,4 @@
 pub mod Records
 pub mod File
 pub mod Checks
+pub mod Rules

@@ -3,6 +3,8 @@ use Rattle.std.specs.Prelude.{ℕ, Bool, cond, not, ◌&&◌, List, [], ◌∷�
 use Rattle.rows.specs.Rows.{Price, closed, less, linkable, open_at, sum, zero_of}
 use Rattle.price.specs.Kinds.{lift_kind}
 use Rattle.chart.specs.Meaning.{Link, Meaning}
+use Rattle.chart.specs.declared.end.End.{End}
+use Rattle.chart.specs.declared.end.End.TheVariants.{From, To}
 use Rattle.chart_file.specs.declared.records.LinkRecord.{LinkRecord}
 use Rattle.chart_file.specs.declared.records.PlaceRecord.{PlaceRecord}
 
@@ -21,6 +23,10 @@ price_of l = cond (l.price_lifts == 0 && l.price_ms == 0) closed (lifts_ms l.pri
 
 abbrev pub link_of : LinkRecord → Link
 link_of l = record { from = l.from; to = l.to; floor = floor_of l; price = price_of l; held = 0 }
+
+abbrev pub end_of : End → LinkRecord → ℕ
+end_of From l = l.from
+end_of To l = l.to
 
 -- the chart of these records
 abbrev pub records_mean : ℕ → ℕ → List PlaceRecord → List LinkRecord → Meaning

@@ -1,28 +1,14 @@
 // Reading a chart file into lent records.
-ghost use Rattle.std.specs.Prelude.{◌≡◌, ◌++◌, length, drop, IfOk, OnOk};
+ghost use Rattle.std.specs.Prelude.{◌≡◌, length, IfOk, OnOk};
 ghost use Rattle.chart.specs.Lawful.{Lawful};
 ghost use Rattle.chart.specs.Refusals.{refused, unless};
-ghost use Rattle.chart_file.specs.Checks.{Passed, file_refusal};
-ghost use Rattle.chart_file.specs.File.{drawn, link_records, place_records, trailer_mean, trailer_of};
+ghost use Rattle.chart_file.specs.Checks.{file_refusal};
+ghost use Rattle.chart_file.specs.File.{drawn, filled, link_layout, place_layout, trailer_mean, trailer_of};
 
-use crate::check::check_file;
 use crate::frame::Frame;
 use crate::records::{LinkRecord, PlaceRecord};
 use crate::trailer::Trailer;
 use chart::ChartFault;
-
-// Fills the first records of both memories with those of a file that passed every check.
-fn fill(file: &[u8], trailer: Trailer, places: &mut [PlaceRecord], links: &mut [LinkRecord])
-    requires { Passed file.now (length places.old) (length links.old) trailer }
-    ensures place_memory { places.new ≡ place_records file.now ++ drop (trailer_of file.now).places places.old }
-    ensures link_memory { links.new ≡ link_records file.now ++ drop (trailer_of file.now).links links.old }
-    ensures meaning { trailer_mean trailer places.new links.new ≡ drawn file.now }
-    ensures lawful { Lawful (drawn file.now) }
-{
-    let frame = Frame { file, trailer };
-    frame.write_places(places);
-    frame.write_links(links);
-}
 
 // Fills the first records of both memories and answers the trailer, or refuses and leaves both as they were.
 // Records past the file's counts are neither read nor written.
@@ -33,12 +19,13 @@ pub fn read_chart(
 ) -> Result<Trailer, ChartFault>
     ensures answer { refused result ≡ file_refusal file.now (length places.old) (length links.old) }
     ensures whole { IfOk result (λ t. t ≡ trailer_of file.now) }
-    ensures place_memory { places.new ≡ unless (file_refusal file.now (length places.old) (length links.old)) places.old (place_records file.now ++ drop (trailer_of file.now).places places.old) }
-    ensures link_memory { links.new ≡ unless (file_refusal file.now (length places.old) (length links.old)) links.old (link_records file.now ++ drop (trailer_of file.now).links links.old) }
+    ensures place_memory { places.new ≡ unless (file_refusal file.now (length places.old) (length links.old)) places.old (filled place_layout file.now places.old) }
+    ensures link_memory { links.new ≡ unless (file_refusal file.now (length places.old) (length links.old)) links.old (filled link_layout file.now links.old) }
     ensures meaning { IfOk result (λ t. trailer_mean t places.new links.new ≡ drawn file.now) }
     ensures lawful { OnOk result (Lawful (drawn file.now)) }
 {
-    let trailer = check_file(file, places.len(), links.len())?;
-    fill(file, trailer, places, links);
-    Ok(trailer)
+    let frame = Frame::checked(file, places.len(), links.len())?;
+    frame.write(places);
+    frame.write(links);
+    Ok(frame.trailer)
 }

@@ -1,14 +1,14 @@
 // The records of a chart file, in memory that the caller lends.
 
 // A place's estimate of its distance to the goal.
-#[derive(Clone, Copy, PartialEq, Eq, Debug)]
+#[derive(Clone, Copy, PartialEq, Eq, Debug, Default)]
 pub struct PlaceRecord {
     pub lifts: u32,
     pub ms: u32,
 }
 
 // A link. A price of 0 lifts and 0 milliseconds is closed.
-#[derive(Clone, Copy, PartialEq, Eq, Debug)]
+#[derive(Clone, Copy, PartialEq, Eq, Debug, Default)]
 pub struct LinkRecord {
     pub from: u16,
     pub to: u16,

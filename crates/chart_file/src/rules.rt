@@ -1,9 +1,11 @@
 // What a place record and a link record mean, and the rules of a link record.
 ghost use Rattle.std.specs.Prelude.{◌≡◌};
-ghost use Rattle.chart_file.specs.Records.{estimate_of, floor_of, keeps_estimate, keeps_rules, lifts_ms, price_of};
+ghost use Rattle.chart_file.specs.Records.{end_of, estimate_of, floor_of, keeps_estimate, keeps_rules, lifts_ms, price_of};
 ghost use Rattle.price.specs.Kinds.{lift_value};
+ghost use Rattle.rows.specs.Rows.{is_open};
 
 use crate::records::{LinkRecord, PlaceRecord};
+use chart::End;
 use price::{Lift, Number, PriceKind};
 
 fn open_price(lifts: u32, ms: u32) -> Lift
@@ -15,15 +17,33 @@ fn open_price(lifts: u32, ms: u32) -> Lift
     }
 }
 
+impl From<PlaceRecord> for Lift {
+    ghost from_gives = { λ p r. lift_value r ≡ estimate_of p };
+
+    fn from(place: PlaceRecord) -> Lift {
+        open_price(place.lifts, place.ms)
+    }
+}
+
 impl PlaceRecord {
     pub fn estimate(self) -> Lift
         ensures { lift_value result ≡ estimate_of self }
     {
-        open_price(self.lifts, self.ms)
+        Lift::from(self)
     }
 }
 
 impl LinkRecord {
+    // The place at one of its ends.
+    pub fn end(self, end: End) -> u16
+        ensures { result ≡ end_of end self }
+    {
+        match end {
+            End::From => self.from,
+            End::To => self.to,
+        }
+    }
+
     pub fn floor(self) -> Lift
         ensures { lift_value result ≡ floor_of self }
     {
@@ -39,6 +59,12 @@ impl LinkRecord {
         open_price(u32::from(self.price_lifts), self.price_ms)
     }
 
+    pub fn is_open(self) -> bool
+        ensures { result ≡ is_open (price_of self) }
+    {
+        self.price() != Lift::Closed
+    }
+
     // Are its ends two different places of a chart with so many, its floor and price in range?
     pub fn keeps_rules(self, places: u16) -> bool
         ensures { result ≡ keeps_rules places self }
@@ -46,8 +72,8 @@ impl LinkRecord {
         let floor = self.floor();
         let price = self.price();
         let ends = self.from < places && self.to < places && self.from != self.to;
-        let floored = Lift::zero().below(floor) && floor.fits_link();
-        let priced = price.fits_link() && !price.below(floor);
+        let floored = Lift::zero() < floor && floor.fits_link();
+        let priced = price.fits_link() && price >= floor;
         ends && floored && priced
     }
 
@@ -55,6 +81,6 @@ impl LinkRecord {
     pub fn keeps_estimate(self, from: PlaceRecord, to: PlaceRecord) -> bool
         ensures { result ≡ keeps_estimate (estimate_of from) (estimate_of to) self }
     {
-        !self.floor().plus(to.estimate()).below(from.estimate())
+        self.floor().plus(to.estimate()) >= from.estimate()
     }
 }

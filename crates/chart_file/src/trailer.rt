@@ -52,8 +52,7 @@ impl Trailer {
     pub fn is_within(self, bytes: usize) -> bool
         ensures { result ≡ in_limits self bytes }
     {
-        self.places >= 1
-            && self.places <= 4096
+        (1..=4096).contains(&self.places)
             && self.links <= 16384
             && self.start < self.places
             && self.goal < self.places

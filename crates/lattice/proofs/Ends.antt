@@ -1,23 +1,29 @@
--- The link numbers at either end of links.
-use Rattle.std.proofs.Common.{◌≡◌, ℕ, true, List, length, Option, sym, ◌∙◌, subst}
-use Rattle.chart.specs.Questions.{Next}
+-- The links with one end at a place, of either end.
+use Rattle.std.proofs.Common.{◌≡◌, ℕ, leb, List, [], ◌∷◌, filter, min, Option, sym, ap, ◌∙◌, subst}
+use Rattle.std.specs.List.{filter_map, reduce}
+use Rattle.chart.specs.Questions.{Next, leads_at}
+use Rattle.chart.specs.declared.end.End.{End}
 use Rattle.lattice_meaning.specs.Directions.{links_per_place}
-use Rattle.lattice_meaning.specs.Numbers.{lowest_of}
+use Rattle.lattice_meaning.specs.Numbers.{lowest_of, number_at}
 use Rattle.lattice_meaning.specs.Prices.{links}
-use Rattle.lattice_meaning.specs.Shape.{Shape, in_limits}
-use Rattle.lattice_meaning.proofs.Next.{next_into, next_out}
-use Rattle.lattice.specs.Ends.{at_end, leads_at}
-use Rattle.lattice.specs.declared.end.End.{End}
-use Rattle.lattice.specs.declared.end.End.TheVariants.{Into, OutOf}
+use Rattle.lattice_meaning.proofs.Next.{next_at}
+use Rattle.lattice.proofs.InUse.{numbers_long}
+use Rattle.lattice.specs.Drawn.{chart_of, numbers_of}
+use Rattle.lattice.specs.Layouts.{number, shape}
+use Rattle.lattice.specs.declared.direction.Direction.{Direction}
+use Rattle.lattice.specs.declared.direction.Direction.TheVariants.{Up, Right, Down, Left}
+use Rattle.lattice.specs.declared.lattice.Lattice.{Lattice}
 
-next_of : (e : End) (s : Shape) (numbers : List ℕ) → in_limits s ≡ true → (p k : ℕ) →
-    Next (leads_at e p) (links s numbers) k (lowest_of k (at_end e s (length numbers) p) links_per_place)
-next_of Into = next_into
-next_of OutOf = next_out
+-- the directions in the order of their numbers
+abbrev pub all : List Direction
+all = Up ∷ Right ∷ Down ∷ Left ∷ []
 
--- what the loop over the directions found
-pub next_found : (e : End) (s : Shape) (numbers : List ℕ) → in_limits s ≡ true → (p k count d : ℕ) (lowest : Option ℕ) →
-    length numbers ≡ count → d ≡ links_per_place → lowest ≡ lowest_of k (at_end e s count p) d → Next (leads_at e p) (links s numbers) k lowest
-next_found e s numbers h p k count d lowest long all found =
-    subst (Next (leads_at e p) (links s numbers) k)
-    (sym (found ∙ (λ i. lowest_of k (at_end e s (sym long i) p) (all i)))) (next_of e s numbers h p k)
+-- the lowest of the numbers in these directions is the next one
+pub next_least : (e : End) (l : Lattice) (p k : ℕ) (r : Option ℕ) →
+    r ≡ reduce min (filter (leb k) (filter_map (λ d. number_at e (shape l.layout) l.link_count p (number d)) all)) → Next (leads_at e p) (chart_of l).links k r
+unfolding lowest_of
+next_least e l p k r least =
+    let s = shape l.layout in
+    subst (Next (leads_at e p) (links s (numbers_of l)) k)
+    (ap (λ (n : ℕ). lowest_of k (number_at e s n p) links_per_place) (numbers_long l) ∙ sym least)
+    (next_at e s (numbers_of l) l.within p k)

@@ -1,9 +1,7 @@
 -- What a lattice means.
-use Rattle.std.specs.Prelude.{◌≡◌, ℕ, List, take, Some, None, Option}
+use Rattle.std.specs.Prelude.{ℕ, List, take}
 use Rattle.chart.specs.Lawful.{Lawful}
 use Rattle.chart.specs.Meaning.{Meaning}
-use Rattle.chart.specs.declared.link.Link.{Link as Answer}
-use Rattle.price.specs.declared.time.Time.{Time}
 use Rattle.lattice_meaning.specs.Prices.{lattice}
 use Rattle.lattice_meaning.proofs.Lawful.{lattice_lawful}
 use Rattle.lattice.specs.Layouts.{shape}
@@ -20,8 +18,3 @@ chart_of c = lattice (shape c.layout) (numbers_of c)
 -- its laws follow from the rules that every value of the type keeps
 pub chart_lawful : (c : Lattice) → Lawful (chart_of c)
 chart_lawful c = lattice_lawful (shape c.layout) (numbers_of c) c.within c.counted c.priced
-
--- no link that is answered is held
-abbrev pub Unheld : Option (Answer Time) → Type 0
-Unheld None = Unit {0}
-Unheld (Some l) = l.held ≡ 0

@@ -1,10 +1,10 @@
 // The lattice as a chart.
+ghost use Rattle.std.specs.Prelude.{refl};
 ghost use Rattle.lattice.specs.Drawn.{chart_lawful, chart_of};
 
-use crate::end::End;
 use crate::lattice::Lattice;
-use chart::{Chart, ChartFault, Link};
-use price::{PriceKind, Time};
+use chart::{Chart, ChartFault, End, Link};
+use price::Time;
 
 impl<'a> Chart for Lattice<'a> {
     type Price = Time;
@@ -14,7 +14,7 @@ impl<'a> Chart for Lattice<'a> {
     ghost lawful = { chart_lawful };
 
     fn places(&self) -> u16 {
-        self.layout.places()
+        self.grid().places()
     }
 
     fn start(&self) -> u16 {
@@ -38,42 +38,18 @@ impl<'a> Chart for Lattice<'a> {
     }
 
     fn estimate(&self, place: u16) -> Option<Time> {
-        self.layout.estimate(place)
+        self.grid().estimate(place)
     }
 
-    fn nth_into(&self, place: u16, n: u16) -> Option<u16> {
-        self.nth_at(End::Into, place, n)
-    }
-
-    fn nth_out(&self, place: u16, n: u16) -> Option<u16> {
-        self.nth_at(End::OutOf, place, n)
-    }
-
-    fn next_into(&self, place: u16, from: u16) -> Option<u16> {
-        self.next_at(End::Into, place, from)
-    }
-
-    fn next_out(&self, place: u16, from: u16) -> Option<u16> {
-        self.next_at(End::OutOf, place, from)
-    }
-
-    fn row_length(&self) -> usize {
-        Time::row_length()
-    }
-
-    fn ceiling(&self) -> u64 {
-        Time::ceiling()
-    }
-
-    fn largest(&self, position: usize) -> Option<u64> {
-        Time::largest(position)
+    fn next_link(&self, end: End, place: u16, from: u16) -> Option<u16> {
+        self.next_at(end, place, from)
     }
 
     fn set_price(&mut self, link: u16, price: Time) -> Result<(), ChartFault> {
-        if let Some(fault) = self.refusal(link, price) {
-            return Err(fault);
-        }
+        self.check_price(link, price)?;
         self.reprice(link, price);
         Ok(())
     }
+
+    ghost priced_in = { λ c. refl };
 }

@@ -4,10 +4,13 @@ ghost use Rattle.lattice.specs.Layouts.{shape};
 ghost use Rattle.lattice_meaning.specs.Prices.{Counted, Priced, Unlinked};
 ghost use Rattle.lattice_meaning.specs.Shape.{in_limits};
 
+use crate::grid::Grid;
 use crate::layout::Layout;
 
 // The first numbers are the prices of its link numbers, 0 where a link is closed or none is. Until it is laid out it
-// is one cell with no link numbers.
+// is one cell with no link numbers. The memory is lent, and mostly longer than what is in use: so a count stands
+// beside it. The layout is no `Grid` here: a struct that holds a `&mut` and a struct with a ghost field cannot be the
+// type argument of another struct, so no layer could stand over it.
 #[derive(Drop)]
 pub struct Lattice<'a> {
     pub(crate) prices: &'a mut [u32],
@@ -23,4 +26,15 @@ pub struct Lattice<'a> {
     ghost priced: { Priced (shape layout) (take link_count prices.now) },
     // each is 0 where no link is
     ghost unlinked: { Unlinked (shape layout) (take link_count prices.now) },
+}
+
+impl Lattice<'_> {
+    // The grid of its cells.
+    pub(crate) fn grid(&self) -> Grid
+        ensures { result.layout ≡ self.now.layout }
+    {
+        Grid {
+            layout: self.layout,
+        }
+    }
 }

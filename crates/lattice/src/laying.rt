@@ -5,33 +5,23 @@ ghost use Rattle.lattice.specs.Drawn.{chart_of};
 ghost use Rattle.lattice.specs.Layouts.{shape};
 ghost use Rattle.lattice_meaning.specs.Prices.{first_prices, lattice, one_place};
 ghost use Rattle.lattice_meaning.specs.Shape.{layout_refusal, link_count};
+ghost use Rattle.std.specs.Result.{IfOk};
 
+use crate::grid::Grid;
 use crate::lattice::Lattice;
 use crate::layout::Layout;
 use chart::{Cause, ChartFault};
 
-// Layouts have no links and no layers yet, so their refusals name none, at height 0.
-fn fault(cause: Cause) -> ChartFault
-    ensures { (result.cause ≡ cause) × ((result.link ≡ None) × (result.height ≡ 0)) }
-{
-    ChartFault {
-        cause,
-        link: None,
-        height: 0,
-    }
-}
-
 // May a lattice be laid out over so many numbers? Refused by 2 or 9.
-fn check(layout: Layout, room: usize) -> Result<(), ChartFault>
-    ensures { refused result ≡ layout_refusal (shape layout) room }
+fn check(layout: Layout, room: usize) -> Result<Grid, ChartFault>
+    ensures answer { refused result ≡ layout_refusal (shape layout) room }
+    ensures laid { IfOk result (λ g. g.layout ≡ layout) }
 {
-    if !layout.is_within() {
-        return Err(fault(Cause::OutsideLimits));
+    let grid = Grid::new(layout)?;
+    if usize::from(grid.links()) > room {
+        return Err(ChartFault::of_chart(Cause::ShortMemory));
     }
-    if usize::from(layout.links()) > room {
-        return Err(fault(Cause::ShortMemory));
-    }
-    Ok(())
+    Ok(grid)
 }
 
 impl<'a> Lattice<'a> {
@@ -63,25 +53,20 @@ impl<'a> Lattice<'a> {
         ensures same { is_err result ≡ true → self.new ≡ self.old }
         ensures lender { self.new.prices.ghost_name ≡ self.old.prices.ghost_name }
     {
-        check(layout, self.prices.len())?;
-        self.fill(layout);
+        let grid = check(layout, self.prices.len())?;
+        self.fill(grid);
         Ok(())
     }
 
     // Lays out what passed the check.
-    fn fill(&mut self, layout: Layout)
-        requires { layout_refusal (shape layout) (length self.old.prices.now) ≡ None }
-        ensures after { chart_of self.new ≡ lattice (shape layout) (first_prices (shape layout)) }
-        ensures memory { self.new.prices.now ≡ first_prices (shape layout) ++ drop (link_count (shape layout)) self.old.prices.now }
+    fn fill(&mut self, grid: Grid)
+        requires { layout_refusal (shape grid.layout) (length self.old.prices.now) ≡ None }
+        ensures after { chart_of self.new ≡ lattice (shape grid.layout) (first_prices (shape grid.layout)) }
+        ensures memory { self.new.prices.now ≡ first_prices (shape grid.layout) ++ drop (link_count (shape grid.layout)) self.old.prices.now }
         ensures lender { self.new.prices.ghost_name ≡ self.old.prices.ghost_name }
     {
-        let Lattice {
-            prices,
-            layout: laid,
-            link_count,
-        } = self;
-        layout.write_first_prices(prices);
-        *laid = layout;
-        *link_count = layout.links();
+        grid.write_first_prices(self.prices);
+        self.layout = grid.layout;
+        self.link_count = grid.links();
     }
 }

@@ -2,11 +2,12 @@
 #![tactic(auto)]
 
 pub mod as_chart;
-mod cells;
-mod end;
+mod direction;
+mod grid;
 pub mod lattice;
 pub mod laying;
 pub mod layout;
+mod numbers;
 mod questions;
 mod repricing;
 

@@ -1,50 +1,15 @@
 // Setting one price.
-ghost use Rattle.std.specs.Prelude.{◌≡◌, true, None};
+ghost use Rattle.std.specs.Prelude.{◌≡◌, None};
 ghost use Rattle.chart.specs.Meaning.{priced};
-ghost use Rattle.chart.specs.Refusals.{refusal, told};
+ghost use Rattle.chart.specs.Refusals.{refusal};
 ghost use Rattle.lattice.specs.Drawn.{chart_of};
-ghost use Rattle.lattice_meaning.specs.Prices.{number_of};
-ghost use Rattle.price.specs.Kinds.{time_kind, time_value};
-ghost use Rattle.rows.specs.Rows.{linkable};
-ghost use Rattle.std.specs.Option.{option_map};
+ghost use Rattle.price.specs.Kinds.{time_value};
 
 use crate::lattice::Lattice;
-use chart::{Cause, ChartFault};
-use price::{PriceKind, Time};
-
-// The number that a price of a link is written as.
-fn number_of(price: Time) -> u32
-    requires { linkable time_kind (time_value price) ≡ true }
-    ensures { result ≡ number_of (time_value price) }
-{
-    match price {
-        Time::Open { ms } => ms.get() as u32,
-        Time::Closed => 0,
-    }
-}
+use crate::numbers::number_of;
+use price::Time;
 
 impl Lattice<'_> {
-    // What setting this price would be refused by. No link of a lattice is held.
-    pub(crate) fn refusal(&self, link: u16, price: Time) -> Option<ChartFault>
-        ensures { option_map told result ≡ refusal (chart_of self.now) link (time_value price) }
-    {
-        let Some(asked) = self.named(link) else {
-            return Some(ChartFault {
-                cause: Cause::NoLink,
-                link: Some(link),
-                height: 0,
-            });
-        };
-        if price.below(asked.floor) || !price.fits_link() {
-            return Some(ChartFault {
-                cause: Cause::BadPrice,
-                link: Some(link),
-                height: 0,
-            });
-        }
-        None
-    }
-
     // Writes the price of a link that may have it.
     pub(crate) fn reprice(&mut self, link: u16, price: Time)
         requires { refusal (chart_of self.old) link (time_value price) ≡ None }

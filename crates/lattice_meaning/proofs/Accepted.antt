@@ -1,7 +1,8 @@
 -- A price that is not refused, and the numbers after it is written.
-use Rattle.std.proofs.Common.{◌≡◌, ℕ, ◌<◌, ◌≤◌, Bool, true, false, cond, not, ◌&&◌, ◌||◌, eqb, ltb, leb, List, [], ◌∷◌, length, get_or, set, Some, None, Option, sym, refl, ap, ◌∙◌, ⊎_elim, arith}
+use Rattle.std.proofs.Common.{◌≡◌, ℕ, ◌<◌, ◌≤◌, Bool, true, false, ◌&&◌, ◌||◌, eqb, leb, List, [], ◌∷◌, length, get_or, set, Some, None, Option, sym, refl, ap, ◌∙◌, ⊎_elim, arith}
 use Rattle.std.proofs.lemmas.List.{get_or-set_other, get_or-set_same, length-set}
-use Rattle.std.proofs.lemmas.Bool.{and_from, and_parts, cases_eq, cases_lt, cond-false, eqb-true, le-leb, leb-true, ltb-false, ne_eqb, not-false, or_parts, or_right}
+use Rattle.std.proofs.lemmas.Bool.Decides.{nat_tests}
+use Rattle.std.proofs.lemmas.Bool.{cases_eq, cases_lt}
 use Rattle.rows.specs.Rows.{Price, closed, less, linkable, open_at}
 use Rattle.price.specs.Kinds.{time_kind}
 use Rattle.chart.specs.Meaning.{Link, priced}
@@ -18,22 +19,15 @@ pub record Accepted (s : Shape) (numbers : List ℕ) (n : ℕ) (p : Price) : Typ
   pub above : less p (time s.least) ≡ false
   pub fits : linkable time_kind p ≡ true
 
-none_left : {A : Type 0} (b : Bool) (x : A) → cond b (Some x) None ≡ None → b ≡ false
-none_left true x e = let z : ◌≡◌ {A = ℕ} 0 1 = cc in absurd (omega arith)
-none_left false x e = refl
-
 module _ (s : Shape) (numbers : List ℕ) (n : ℕ) (p : Price) where
   accepted_at : (o : Option ℕ) → leads_to s n ≡ o → n < length numbers → refusal_at time_kind (link_to s n (get_or numbers n 0) o) n p ≡ None → Accepted s numbers n p
-  accepted_at None h l e = let z : ◌≡◌ {A = ℕ} 0 1 = cc in absurd (omega arith)
-  accepted_at (Some to) h l e =
-      let parts = or_parts (less p (time s.least)) (not (linkable time_kind p))
-      (none_left (less p (time s.least) || not (linkable time_kind p)) (record { by = 8; link = Some n; height = 0 }) e) in
-      record {
-        in_table = l;
-        linked = λ none. let z : ◌≡◌ {A = ℕ} 0 1 = cc in omega arith;
-        above = parts.0;
-        fits = not-false (linkable time_kind p) parts.1;
-      }
+  accepted_at None h l e = cc
+  accepted_at (Some to) h l e = record {
+    in_table = l;
+    linked = λ none. cc;
+    above = grind (arith, nat_tests);
+    fits = grind (arith, nat_tests);
+  }
 
   pub accepted : refusal (lattice s numbers) n p ≡ None → Accepted s numbers n p
   accepted e = ⊎_elim
@@ -42,14 +36,7 @@ module _ (s : Shape) (numbers : List ℕ) (n : ℕ) (p : Price) where
       (cases_lt n (length numbers))
     where
       nowhere : refusal_at time_kind None n p ≡ None → ⊥
-      nowhere e = let z : ◌≡◌ {A = ℕ} 0 1 = cc in omega arith
-
-not_below : (a b : ℕ) → less (time a) (time b) ≡ false → b ≤ a
-not_below a b e = go (eqb a b) refl e
-  where
-    go : (same : Bool) → eqb a b ≡ same → cond same false (ltb a b) ≡ false → b ≤ a
-    go true h e = omega (arith, eqb-true a b h)
-    go false h e = ltb-false a b e
+      nowhere e = cc
 
 -- the number that it is written as, and read as again
 pub record NumberFor (least : ℕ) (p : Price) : Type 0 where
@@ -58,18 +45,9 @@ pub record NumberFor (least : ℕ) (p : Price) : Type 0 where
 
 number_for : (least : ℕ) → 1 ≤ least → (p : Price) → less p (time least) ≡ false → linkable time_kind p ≡ true → NumberFor least p
 number_for least l closed above fits = record { reads = refl; in_range = refl }
-number_for least l (open_at []) above fits = let z : ◌≡◌ {A = Bool} true false = cc in absurd (never z)
-  where
-    never : true ≡ false → ⊥
-    never e = let z : ◌≡◌ {A = ℕ} 0 1 = cc in omega arith
-number_for least l (open_at (ms ∷ [])) above fits =
-    let low = not_below ms least above in
-    let most = leb-true ms 1000000 (and_parts (leb ms 1000000) true fits).0 in
-    record {
-      reads = cond-false (eqb ms 0) closed (time ms) (ne_eqb ms 0 (λ e. omega arith));
-      in_range = or_right (eqb ms 0) (leb least ms && leb ms 1000000) (and_from (leb least ms) (leb ms 1000000) (le-leb least ms low) (le-leb ms 1000000 most));
-    }
-number_for least l (open_at (ms ∷ x ∷ more)) above fits = let z = (and_parts (leb ms 1000000) false fits).1 in let y : ◌≡◌ {A = ℕ} 0 1 = cc in absurd (omega arith)
+number_for least l (open_at []) above fits = cc
+number_for least l (open_at (ms ∷ [])) above fits = record { reads = grind (arith, nat_tests); in_range = grind (arith, nat_tests) }
+number_for least l (open_at (ms ∷ x ∷ more)) above fits = absurd (grind (arith, nat_tests))
 
 -- the numbers after the price of one link was written keep the rules
 pub record Repriced (s : Shape) (numbers : List ℕ) (n : ℕ) (p : Price) : Type 0 where

@@ -1,8 +1,8 @@
 -- A lattice whose numbers keep the rules is a lawful chart.
-use Rattle.std.proofs.Common.{◌≡◌, ℕ, ◌+◌, ◌*◌, ◌%◌, ◌^◌, ◌<◌, ◌≤◌, Bool, true, false, cond, ◌&&◌, ◌||◌, eqb, ltb, leb, List, [], ◌∷◌, length, get_or, Some, None, Option, sym, refl, ap, ◌∙◌, subst, mul-zero, arith, lit≤}
+use Rattle.std.proofs.Common.{◌≡◌, ℕ, ◌+◌, ◌*◌, ◌%◌, ◌<◌, ◌≤◌, true, false, ◌&&◌, ◌||◌, eqb, leb, List, [], ◌∷◌, length, get_or, Some, None, Option, sym, refl, ap, ◌∙◌, subst, mul-zero, arith, lit≤}
 use Rattle.std.proofs.lemmas.Nat.{mod_below}
-use Rattle.std.proofs.lemmas.Bool.{and_from, and_parts, eqb-true, le-leb, le-ltb, leb-true, lt-ltb}
-use Rattle.rows.specs.Rows.{capped, closed, less, linkable, sum, zero_of}
+use Rattle.std.proofs.lemmas.Bool.Decides.{nat_tests}
+use Rattle.rows.specs.Rows.{capped, less, linkable, sum, zero_of}
 use Rattle.price.specs.Kinds.{time_kind}
 use Rattle.chart.specs.Lawful.{Consistent, EstimateLaw, Lawful, LinkLaw}
 use Rattle.lattice_meaning.specs.Directions.{direction, links_per_place}
@@ -13,45 +13,22 @@ use Rattle.lattice_meaning.proofs.Limits.{Limits, limits}
 use Rattle.lattice_meaning.proofs.Steps.{estimate_most, least_nearer, not_same, one_step}
 use Rattle.lattice_meaning.proofs.Table.{each_link, estimate_is, estimates_long, links_long}
 
--- a time that is not below another, capped or not
-not_less : (a b : ℕ) → b ≤ a → less (time a) (time b) ≡ false
-not_less a b l = go (eqb a b)
-  where
-    go : (e : Bool) → cond e false (ltb a b) ≡ false
-    go true = refl
-    go false = le-ltb a b l
-
+-- a time that is not below another
 capped_not_less : (a b : ℕ) → b ≤ a → less (capped time_kind (a ∷ [])) (time b) ≡ false
-capped_not_less a b l = go (ltb a (2 ^ 40) && true)
-  where
-    go : (e : Bool) → less (cond e (time a) closed) (time b) ≡ false
-    go true = not_less a b l
-    go false = refl
+capped_not_less a b l = grind (arith, nat_tests)
 
 zero_less : (a : ℕ) → 1 ≤ a → less (zero_of time_kind) (time a) ≡ true
-zero_less a l = go (eqb 0 a) refl
-  where
-    go : (e : Bool) → eqb 0 a ≡ e → cond e false (ltb 0 a) ≡ true
-    go true h = absurd (omega (arith, eqb-true 0 a h))
-    go false h = lt-ltb 0 a l
+zero_less a l = grind (arith, nat_tests)
 
 fits : (a : ℕ) → a ≤ 1000000 → linkable time_kind (time a) ≡ true
-fits a l = and_from (leb a 1000000) true (le-leb a 1000000 l) refl
+fits a l = grind (arith, nat_tests)
 
 -- a number that keeps the rules is a price
 priced_above : (least v : ℕ) → (eqb v 0 || (leb least v && leb v 1000000)) ≡ true → less (price_of v) (time least) ≡ false
-priced_above least v h = go (eqb v 0) h
-  where
-    go : (z : Bool) → (z || (leb least v && leb v 1000000)) ≡ true → less (cond z closed (time v)) (time least) ≡ false
-    go true h = refl
-    go false h = not_less v least (leb-true least v (and_parts (leb least v) (leb v 1000000) h).0)
+priced_above least v h = grind (arith, nat_tests)
 
 priced_fits : (least v : ℕ) → (eqb v 0 || (leb least v && leb v 1000000)) ≡ true → linkable time_kind (price_of v) ≡ true
-priced_fits least v h = go (eqb v 0) h
-  where
-    go : (z : Bool) → (z || (leb least v && leb v 1000000)) ≡ true → linkable time_kind (cond z closed (time v)) ≡ true
-    go true h = refl
-    go false h = fits v (leb-true v 1000000 (and_parts (leb least v) (leb v 1000000) h).1)
+priced_fits least v h = grind (arith, nat_tests)
 
 module _ (s : Shape) (numbers : List ℕ) (lim : Limits s) (count : Counted s numbers) (ruled : Priced s numbers) where
   joined : (n q : ℕ) → leads_to s n ≡ Some q → Neighbours s (direction (n % links_per_place)) (leads_from n) q

@@ -5,6 +5,5 @@ pub mod Table
 pub mod Lawful
 pub mod Written
 pub mod Accepted
-pub mod Rising
 pub mod Lowest
 pub mod Next

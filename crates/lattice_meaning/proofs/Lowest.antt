@@ -1,81 +1,66 @@
 -- The lowest of some link numbers is the next one, where they are all that pass a test.
-use Rattle.std.proofs.Common.{◌≡◌, ℕ, zero, suc, ◌+◌, ◌<◌, ◌≤◌, Bool, true, false, cond, ◌&&◌, ltb, leb, ◌⊎◌, List, length, get_or, Some, None, Option, sym, refl, ap, ◌∙◌, subst, inl, inr, ⊎_elim, add-one, arith}
-use Rattle.std.proofs.lemmas.Bool.{cases_Bool, cases_eq, leb-false, leb-true, ltb-false, ltb-true}
+use Rattle.std.proofs.Common.{◌≡◌, ℕ, zero, suc, ◌+◌, ◌<◌, ◌≤◌, Bool, true, false, cond, leb, List, [], ◌∷◌, length, get_or, min, filter, Some, None, Option, sym, refl, subst, ⊎_elim, arith}
+use Rattle.std.specs.List.{AllByRecursion, cons_option, filter_map, fold, range_with_len, reduce}
+use Rattle.std.proofs.lemmas.Bool.{cases_eq, cases_lt, false_from_ne_true, leb-false, leb-true}
 use Rattle.chart.specs.Meaning.{Link}
 use Rattle.chart.specs.Questions.{Next}
-use Rattle.lattice_meaning.specs.Numbers.{lower, lowest_of}
+use Rattle.lattice_meaning.specs.Numbers.{lowest_of}
 
--- there is one, and it is no more than n
-abbrev AtMost : Option ℕ → ℕ → Type 0
-AtMost None n = ⊥
-AtMost (Some b) n = b ≤ n
+-- the least of x and some more
+least_low : (x : ℕ) (xs : List ℕ) → fold min x xs ≤ x
+least_low x [] = omega arith
+least_low x (y ∷ xs) = omega (arith, least_low (min x y) xs)
 
-lower_keeps : (k n : ℕ) (r o : Option ℕ) → AtMost r n → AtMost (lower k r o) n
-lower_keeps k n r None h = h
-lower_keeps k n None (Some m) h = absurd h
-lower_keeps k n (Some b) (Some m) h = go (leb k m) (ltb m b) refl
-  where
-    go : (low less : Bool) → ltb m b ≡ less → AtMost (cond (low && less) (Some m) (Some b)) n
-    go false less e = h
-    go true false e = h
-    go true true e = omega (arith, ltb-true m b e)
+least_all : (x : ℕ) (xs : List ℕ) → AllByRecursion (λ y. fold min x xs ≤ y) xs
+least_all x [] = tt
+least_all x (y ∷ xs) = (omega (arith, least_low (min x y) xs), least_all (min x y) xs)
 
-lower_takes : (k n : ℕ) (r : Option ℕ) → k ≤ n → AtMost (lower k r (Some n)) n
-lower_takes k n None l = go (leb k n) refl
-  where
-    go : (low : Bool) → leb k n ≡ low → AtMost (cond low (Some n) None) n
-    go true e = omega arith
-    go false e = omega (arith, leb-false k n e)
-lower_takes k n (Some b) l = go (leb k n) (ltb n b) refl refl
-  where
-    go : (low less : Bool) → leb k n ≡ low → ltb n b ≡ less → AtMost (cond (low && less) (Some n) (Some b)) n
-    go false less e f = absurd (omega (arith, leb-false k n e))
-    go true false e f = omega (arith, ltb-false n b f)
-    go true true e f = omega arith
-
-lower_comes : (k b : ℕ) (r o : Option ℕ) → lower k r o ≡ Some b → (r ≡ Some b) ⊎ ((o ≡ Some b) × (k ≤ b))
-lower_comes k b r None e = inl e
-lower_comes k b None (Some n) e = go (leb k n) refl e
-  where
-    go : (low : Bool) → leb k n ≡ low → cond low (Some n) None ≡ Some b → (None ≡ Some b) ⊎ ((Some n ≡ Some b) × (k ≤ b))
-    go true h e = let same : n ≡ b = cc in inr (e, omega (arith, leb-true k n h))
-    go false h e = inl e
-lower_comes k b (Some m) (Some n) e = go (leb k n) (ltb n m) refl e
-  where
-    go : (low less : Bool) → leb k n ≡ low → cond (low && less) (Some n) (Some m) ≡ Some b → (Some m ≡ Some b) ⊎ ((Some n ≡ Some b) × (k ≤ b))
-    go false less h e = inl e
-    go true false h e = inl e
-    go true true h e = let same : n ≡ b = cc in inr (e, omega (arith, leb-true k n h))
+least_is : (P : ℕ → Type 0) (x : ℕ) (xs : List ℕ) → P x → AllByRecursion P xs → P (fold min x xs)
+least_is P x [] p h = p
+least_is P x (y ∷ xs) p h = least_is P (min x y) xs (⊎_elim
+    (λ (l : x < y). let e : x ≡ min x y = omega arith in subst P e p)
+    (λ (l : y ≤ x). let e : y ≡ min x y = omega arith in subst P e h.0) (cases_lt x y)) h.1
 
 module _ (k : ℕ) (f : ℕ → Option ℕ) where
-  lowest_suc : (d : ℕ) → lowest_of k f (suc d) ≡ lower k (lowest_of k f d) (f d)
-  unfolding lowest_of
-  lowest_suc d = refl
+  -- those of n numbers, from that of a on, that are at least k
+  abbrev some_of : ℕ → ℕ → List ℕ
+  some_of a n = filter (leb k) (filter_map f (range_with_len a n))
 
-  covers : (m i n : ℕ) → i < m → f i ≡ Some n → k ≤ n → AtMost (lowest_of k f m) n
-  unfolding lowest_of
-  covers zero i n l e h = absurd (omega arith)
-  covers (suc m) i n l e h = ⊎_elim
-      (λ (same : i ≡ m). subst (λ (o : Option ℕ). AtMost (lower k (lowest_of k f m) o) n) (sym e ∙ ap f same) (lower_takes k n (lowest_of k f m) h))
-      (λ (other : i ≡ m → ⊥). lower_keeps k n (lowest_of k f m) (f m) (covers m i n (omega arith) e h)) (cases_eq i m)
+  -- P holds of a number, if there is one and it is at least k
+  abbrev At : (ℕ → Type 0) → Option ℕ → Type 0
+  At P o = (j : ℕ) → o ≡ Some j → k ≤ j → P j
 
-  -- a loop that keeps the lowest so far
-  pub lowest_none : None ≡ lowest_of k f 0
-  unfolding lowest_of
-  lowest_none = refl
-
-  pub lowest_more : (d : ℕ) (lowest number after : Option ℕ) → lowest ≡ lowest_of k f d → number ≡ f d → after ≡ lower k lowest number → after ≡ lowest_of k f (d + 1)
-  lowest_more d lowest number after so_far here e = e ∙ (λ i. lower k (so_far i) (here i)) ∙ one_more d
+  one_more : (P : ℕ → Type 0) (o : Option ℕ) (xs : List ℕ) → At P o → AllByRecursion P (filter (leb k) xs) → AllByRecursion P (filter (leb k) (cons_option o xs))
+  one_more P None xs e h = h
+  one_more P (Some j) xs e h = go (leb k j) refl
     where
-      one_more : (d : ℕ) → lower k (lowest_of k f d) (f d) ≡ lowest_of k f (d + 1)
-      one_more d = sym (ap (lowest_of k f) (add-one d) ∙ lowest_suc d)
+      go : (b : Bool) → leb k j ≡ b → AllByRecursion P (cond b (j ∷ filter (leb k) xs) (filter (leb k) xs))
+      go true q = (e j refl (leb-true k j q), h)
+      go false q = h
 
-  comes : (m b : ℕ) → lowest_of k f m ≡ Some b → (k ≤ b) × ((i : ℕ) × (i < m) × (f i ≡ Some b))
-  unfolding lowest_of
-  comes zero b e = let z : ◌≡◌ {A = ℕ} 0 1 = cc in absurd (omega arith)
-  comes (suc m) b e = ⊎_elim
-      (λ (old : lowest_of k f m ≡ Some b). let c = comes m b old in (c.0, (c.1.0, omega arith, c.1.2)))
-      (λ (new : (f m ≡ Some b) × (k ≤ b)). (new.1, (m, omega arith, new.0))) (lower_comes k b (lowest_of k f m) (f m) e)
+  one_fewer : (P : ℕ → Type 0) (o : Option ℕ) (xs : List ℕ) → AllByRecursion P (filter (leb k) (cons_option o xs)) → At P o × AllByRecursion P (filter (leb k) xs)
+  one_fewer P None xs h = ((λ j e l. cc), h)
+  one_fewer P (Some i) xs h = go (leb k i) refl h
+    where
+      go : (b : Bool) → leb k i ≡ b → AllByRecursion P (cond b (i ∷ filter (leb k) xs) (filter (leb k) xs)) → At P (Some i) × AllByRecursion P (filter (leb k) xs)
+      go true q h = ((λ j e l. let same : i ≡ j = cc in subst P same h.0), h.1)
+      go false q h = ((λ j e l. let same : i ≡ j = cc in absurd (omega (arith, leb-false k i q))), h)
+
+  -- what holds of each of the n numbers holds of each of the list
+  into_list : (P : ℕ → Type 0) (a n : ℕ) → ((i : ℕ) → a ≤ i → i < a + n → At P (f i)) → AllByRecursion P (some_of a n)
+  into_list P a zero h = tt
+  into_list P a (suc n) h =
+      one_more P (f a) (filter_map f (range_with_len (a + 1) n)) (h a (omega arith) (omega arith))
+      (into_list P (a + 1) n (λ i l m. h i (omega arith) (omega arith)))
+
+  -- and the other way
+  from_list : (P : ℕ → Type 0) (a n : ℕ) → AllByRecursion P (some_of a n) → (i : ℕ) → a ≤ i → i < a + n → At P (f i)
+  from_list P a zero h i l m = absurd (omega arith)
+  from_list P a (suc n) h i l m =
+      let t = one_fewer P (f a) (filter_map f (range_with_len (a + 1) n)) h in
+      ⊎_elim
+      (λ (same : i ≡ a). subst (λ (z : ℕ). At P (f z)) (sym same) t.0)
+      (λ (other : i ≡ a → ⊥). from_list P (a + 1) n t.1 i (omega arith) (omega arith)) (cases_eq i a)
 
 -- each of the numbers is in the table and passes, and each that passes is one of them
 pub record AllThatPass (test : Option Link → Bool) (ls : List (Option Link)) (f : ℕ → Option ℕ) (m : ℕ) : Type 0 where
@@ -83,23 +68,22 @@ pub record AllThatPass (test : Option Link → Bool) (ls : List (Option Link)) (
   pub all : (j : ℕ) → test (get_or ls j None) ≡ true → (i : ℕ) × (i < m) × (f i ≡ Some j)
 
 module _ (test : Option Link → Bool) (ls : List (Option Link)) (f : ℕ → Option ℕ) (m : ℕ) (A : AllThatPass test ls f m) (k : ℕ) where
-  covered : (j : ℕ) → k ≤ j → test (get_or ls j None) ≡ true → AtMost (lowest_of k f m) j
-  covered j l e = let a = A.all j e in covers k f m a.0 j a.1 a.2 l
+  abbrev Passes : ℕ → Type 0
+  Passes n = (k ≤ n) × (n < length ls) × (test (get_or ls n None) ≡ true)
+
+  -- what holds of each number of a list holds of each number from k on that passes
+  abbrev Covers : List ℕ → Type 1
+  Covers xs = (P : ℕ → Type 0) → AllByRecursion P xs → (j : ℕ) → k ≤ j → test (get_or ls j None) ≡ true → P j
+
+  least_next : (xs : List ℕ) → AllByRecursion Passes xs → Covers xs → Next test ls k (reduce min xs)
+  least_next [] h each = λ j l. false_from_ne_true (test (get_or ls j None)) (each (λ y. ⊥) tt j l)
+  least_next (x ∷ xs) h each =
+      let p = least_is Passes x xs h.0 h.1 in
+      let low : AllByRecursion (λ y. fold min x xs ≤ y) (x ∷ xs) = (least_low x xs, least_all x xs) in
+      (p.0, p.1, p.2, λ j l less. false_from_ne_true (test (get_or ls j None)) (λ e. let q = each (λ y. fold min x xs ≤ y) low j l e in omega arith))
 
   pub next_lowest : Next test ls k (lowest_of k f m)
-  next_lowest = go (lowest_of k f m) refl
-    where
-      go : (r : Option ℕ) → lowest_of k f m ≡ r → Next test ls k r
-      go None e = λ j l. ⊎_elim
-          (λ (h : test (get_or ls j None) ≡ true). absurd (subst (λ (o : Option ℕ). AtMost o j) e (covered j l h)))
-          (λ (h : test (get_or ls j None) ≡ false). h) (cases_Bool (test (get_or ls j None)))
-      go (Some b) e =
-          let c = comes k f m b e in
-          let p = A.passes c.1.0 b c.1.1 c.1.2 in (
-            c.0,
-            p.0,
-            p.1,
-            λ j l less. ⊎_elim
-                (λ (h : test (get_or ls j None) ≡ true). absurd (omega (arith, subst (λ (o : Option ℕ). AtMost o j) e (covered j l h))))
-                (λ (h : test (get_or ls j None) ≡ false). h) (cases_Bool (test (get_or ls j None))),
-          )
+  unfolding lowest_of
+  next_lowest = least_next (some_of k f 0 m)
+      (into_list k f Passes 0 m (λ i l below n e high. let p = A.passes i n (omega arith) e in (high, p.0, p.1)))
+      (λ P h j l e. let a = A.all j e in from_list k f P 0 m h a.0 (omega arith) (omega arith) j a.2 l)

@@ -1,44 +1,33 @@
 -- Each direction of the list leads one step, and the distance to the goal falls by at most one.
-use Rattle.std.proofs.Common.{◌≡◌, ℕ, zero, suc, ◌+◌, ◌-◌, ◌*◌, ◌/◌, ◌%◌, ◌<◌, ◌≤◌, List, [], ◌∷◌, length, get_or, refl, ap, subst, mul-one, mul-add, arith}
+use Rattle.std.proofs.Common.{◌≡◌, ℕ, zero, suc, ◌+◌, ◌-◌, ◌*◌, ◌/◌, ◌%◌, ◌<◌, ◌≤◌, refl, ap, mul-one, mul-add, arith}
 use Rattle.std.proofs.lemmas.Nat.{mul-le}
-use Rattle.lattice_meaning.specs.Directions.{Direction, back, direction, directions, links_per_place, still, turned}
+use Rattle.lattice_meaning.specs.Directions.{Direction, back, direction, links_per_place, turned}
 use Rattle.lattice_meaning.specs.Prices.{apart, distance}
 use Rattle.lattice_meaning.specs.Shape.{Shape, column, place_count, row}
 use Rattle.lattice_meaning.proofs.Cells.{Neighbours}
 use Rattle.lattice_meaning.proofs.Limits.{Limits, column_in, row_in}
 
--- P holds of each element and its index, where the first has index k
-abbrev Each : {A : Type 0} → (ℕ → A → Type 0) → ℕ → List A → Type 0
-Each P k [] = Unit {0}
-Each P k (x ∷ xs) = P k x × Each P (suc k) xs
-
-each_at : {A : Type 0} (P : ℕ → A → Type 0) (none : A) (xs : List A) (n k : ℕ) → Each P k xs → n < length xs → P (k + n) (get_or xs n none)
-each_at P none [] n k all l = absurd (omega arith)
-each_at P none (x ∷ xs) zero k all l = subst (λ (m : ℕ). P m x) (omega arith) all.0
-each_at P none (x ∷ xs) (suc n) k all l = subst (λ (m : ℕ). P m (get_or xs n none)) (omega arith) (each_at P none xs n (suc k) all.1 (omega arith))
-
-each_direction : (P : ℕ → Direction → Type 0) → Each P 0 directions → (d : ℕ) → d < links_per_place → P d (direction d)
-each_direction P all d l = subst (λ (m : ℕ). P m (direction d)) (omega arith) (each_at P still directions d 0 all l)
-
 abbrev pub OneStep : Direction → Type 0
 OneStep d = d.left + d.right + d.up + d.down ≡ 1
 
 pub one_step : (d : ℕ) → d < links_per_place → OneStep (direction d)
-one_step = each_direction (λ d e. OneStep e) (refl, (refl, (refl, (refl, tt))))
+one_step zero l = refl
+one_step (suc zero) l = refl
+one_step (suc (suc zero)) l = refl
+one_step (suc (suc (suc zero))) l = refl
+one_step (suc (suc (suc (suc d)))) l = absurd (omega arith)
 
 -- the direction that leads back is the other way
 pub back_turned : (d : ℕ) → d < links_per_place → turned (direction d) ≡ direction (back d)
-back_turned = each_direction (λ d e. turned e ≡ direction (back d)) (refl, (refl, (refl, (refl, tt))))
+back_turned zero l = refl
+back_turned (suc zero) l = refl
+back_turned (suc (suc zero)) l = refl
+back_turned (suc (suc (suc zero))) l = refl
+back_turned (suc (suc (suc (suc d)))) l = absurd (omega arith)
 
 -- so far back and on, a number is no nearer to a third than by both
 closer : (a b g less more : ℕ) → less ≤ a → b ≡ a + more - less → apart a g ≤ less + more + apart b g
-closer a b g less more l e = let e : b + less ≡ a + more = omega arith in bounded a b g less more e
-  where
-    bounded : (a b g less more : ℕ) → b + less ≡ a + more → apart a g ≤ less + more + apart b g
-    bounded a b g less more e = omega arith
-
-both : (a b c d k l : ℕ) → a ≤ k + b → c ≤ l + d → k + l ≡ 1 → a + c ≤ 1 + (b + d)
-both a b c d k l h g e = omega arith
+closer a b g less more l e = omega arith
 
 module _ (s : Shape) (d : Direction) (p q : ℕ) (one : OneStep d) (n : Neighbours s d p q) where
   -- neighbours are two places
@@ -50,9 +39,10 @@ module _ (s : Shape) (d : Direction) (p q : ℕ) (one : OneStep d) (n : Neighbou
 
   nearer : distance s p ≤ 1 + distance s q
   nearer =
-      both _ _ _ _ _ _
-      (closer (column s p) (column s q) (column s s.goal) d.left d.right n.left_in n.column_is)
-      (closer (row s p) (row s q) (row s s.goal) d.up d.down n.up_in n.row_is) (omega arith)
+      let x = closer (column s p) (column s q) (column s s.goal) d.left d.right n.left_in n.column_is in
+      let y = closer (row s p) (row s q) (row s s.goal) d.up d.down n.up_in n.row_is in
+      let long : d.left + d.right + d.up + d.down ≡ 1 = one in
+      omega arith
 
   pub least_nearer : s.least * distance s p ≤ s.least + s.least * distance s q
   least_nearer =

@@ -1,9 +1,10 @@
 -- Numbers that are written: the first prices, and one price that is set.
-use Rattle.std.proofs.Common.{◌≡◌, ℕ, ◌+◌, ◌<◌, ◌≤◌, Bool, true, ◌&&◌, ◌||◌, eqb, leb, List, [], ◌∷◌, ◌++◌, map, length, get_or, take, drop, set, Some, None, Option, sym, refl, ap, ◌∙◌, subst, ⊎_elim, append_assoc, arith}
+use Rattle.std.proofs.Common.{◌≡◌, ℕ, ◌+◌, ◌<◌, ◌≤◌, Bool, true, ◌&&◌, ◌||◌, eqb, leb, List, [], ◌∷◌, ◌++◌, map, length, get_or, take, drop, set, Some, None, Option, sym, refl, ap, ◌∙◌, subst, ⊎_elim, append_assoc, append-nil, arith}
 use Rattle.std.specs.List.{range_with_len}
 use Rattle.std.proofs.lemmas.List.FromFn.{get_or-map-range_with_len, length-map-range_with_len, map-range_with_len_more}
-use Rattle.std.proofs.lemmas.List.{drop_more, ext_get_or, get_or-set_other, get_or-set_same, length-set, set_at, take_at}
-use Rattle.std.proofs.lemmas.Bool.{and_from, cases_eq, le-leb, or_right}
+use Rattle.std.proofs.lemmas.List.{drop_all, drop_more, ext_get_or, get_or-set_other, get_or-set_same, length-set, set_at, take_at}
+use Rattle.std.proofs.lemmas.Bool.Decides.{nat_tests}
+use Rattle.std.proofs.lemmas.Bool.{cases_eq}
 use Rattle.chart.specs.Meaning.{Link, link_at, priced, with_price}
 use Rattle.price.specs.Kinds.{time_kind}
 use Rattle.lattice_meaning.specs.Prices.{estimates, first_price, first_price_to, first_prices, lattice, link_named, link_to, links, price_of}
@@ -17,8 +18,7 @@ in_range least v = eqb v 0 || (leb least v && leb v 1000000)
 
 first_in_range : (s : Shape) → s.least ≤ 1000000 → (o : Option ℕ) → in_range s.least (first_price_to s o) ≡ true
 first_in_range s l None = refl
-first_in_range s l (Some q) = or_right (eqb s.least 0) (leb s.least s.least && leb s.least 1000000)
-    (and_from (leb s.least s.least) (leb s.least 1000000) (le-leb s.least s.least (omega arith)) (le-leb s.least 1000000 l))
+first_in_range s l (Some q) = grind (arith, nat_tests)
 
 pub first_long : (s : Shape) → length (first_prices s) ≡ link_count s
 first_long s = length-map-range_with_len (first_price s) 0 (link_count s)
@@ -42,6 +42,11 @@ written_more s before n l =
     ∙ set_at (map f (range_with_len 0 n)) _ (drop (n + 1) before) (f n) n (length-map-range_with_len f 0 n)
     ∙ sym (append_assoc (map f (range_with_len 0 n)) (f n ∷ []) (drop (n + 1) before))
     ∙ ap (λ (r : List ℕ). r ++ drop (n + 1) before) (sym (map-range_with_len_more f 0 n n (omega arith)))
+
+pub written_all : (s : Shape) (before now : List ℕ) (n : ℕ) → n ≡ link_count s → length before ≤ n →
+    now ≡ map (first_price s) (range_with_len 0 n) ++ drop n before → now ≡ first_prices s
+written_all s before now n same l e =
+    e ∙ (λ i. map (first_price s) (range_with_len 0 (same i)) ++ drop_all n before l i) ∙ append-nil (first_prices s)
 
 -- the numbers in use after that
 pub written_front : (s : Shape) (before after : List ℕ) (count : ℕ) → count ≡ link_count s → after ≡ first_prices s ++ drop (link_count s) before →

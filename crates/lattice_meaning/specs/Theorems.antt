@@ -1,10 +1,11 @@
 -- What holds of every lattice.
 use Rattle.std.specs.Prelude.{◌≡◌, ℕ, ◌<◌, true, List, [], length, slice_set}
+use Rattle.chart.specs.declared.end.End.{End}
 use Rattle.chart.specs.Lawful.{Lawful}
 use Rattle.chart.specs.Meaning.{priced}
-use Rattle.chart.specs.Questions.{Next, leads_into, leads_out}
+use Rattle.chart.specs.Questions.{Next, leads_at}
 use Rattle.lattice_meaning.specs.Directions.{links_per_place}
-use Rattle.lattice_meaning.specs.Numbers.{arriving, leaving, lowest_of}
+use Rattle.lattice_meaning.specs.Numbers.{lowest_of, number_at}
 use Rattle.lattice_meaning.specs.Prices.{Counted, Priced, Unlinked, first_prices, lattice, links, one_cell, one_place, price_of}
 use Rattle.lattice_meaning.specs.Shape.{Shape, in_limits}
 
@@ -30,12 +31,7 @@ OneCell = lattice one_cell [] ≡ one_place
 abbrev pub SetIsPriced : Type 0
 SetIsPriced = (s : Shape) (numbers : List ℕ) (n v : ℕ) → n < length numbers → lattice s (slice_set numbers n v) ≡ priced (lattice s numbers) n (price_of v)
 
--- the next link number out of a place is the lowest of those of the directions
-abbrev pub NextOut : Type 0
-NextOut = (s : Shape) (numbers : List ℕ) → in_limits s ≡ true → (p k : ℕ) →
-    Next (leads_out p) (links s numbers) k (lowest_of k (leaving s (length numbers) p) links_per_place)
-
--- and so is the next link number into it
-abbrev pub NextInto : Type 0
-NextInto = (s : Shape) (numbers : List ℕ) → in_limits s ≡ true → (p k : ℕ) →
-    Next (leads_into p) (links s numbers) k (lowest_of k (arriving s (length numbers) p) links_per_place)
+-- the next link number with one end at a place is the lowest of those of the directions
+abbrev pub NextAt : Type 0
+NextAt = (end : End) (s : Shape) (numbers : List ℕ) → in_limits s ≡ true → (p k : ℕ) →
+    Next (leads_at end p) (links s numbers) k (lowest_of k (number_at end s (length numbers) p) links_per_place)

@@ -2,7 +2,7 @@
 // definitions in specs/.
 #![tactic(auto)]
 
-ghost use Rattle.lattice_meaning.specs.Theorems.{FirstRuled, LatticesLawful, NextInto, NextOut, OneCell, SetIsPriced};
+ghost use Rattle.lattice_meaning.specs.Theorems.{FirstRuled, LatticesLawful, NextAt, OneCell, SetIsPriced};
 
 // Of all sizes, starts, goals and numbers that keep the rules.
 pub fn lattices_are_lawful() -> u8
@@ -19,10 +19,9 @@ pub fn written_numbers_are_prices() -> u8
     0
 }
 
-// Only the link numbers of the directions lead out of a place or into it.
+// Only the link numbers of the directions lead out of a place, or into it.
 pub fn links_follow_the_directions() -> u8
-    ensures out_of { NextOut }
-    ensures into { NextInto }
+    ensures { NextAt }
 {
     0
 }

@@ -5,7 +5,9 @@ use Rattle.std.proofs.lemmas.Bool.{cond-true, cond-false, true≢false}
 use Rattle.rows.specs.Rows.{Kind, Price, closed}
 use Rattle.chart.specs.Lawful.{Consistent, LinkLaw}
 use Rattle.chart.specs.Meaning.{Link, Meaning, link_at, places, priced, with_price}
-use Rattle.chart.specs.Questions.{Next, leads_into, leads_out}
+use Rattle.chart.specs.Questions.{Next, leads_at, leads_into, leads_out}
+use Rattle.chart.specs.declared.end.End.{End}
+use Rattle.chart.specs.declared.end.End.TheVariants.{From, To}
 use Rattle.chart.specs.Refusals.{Refusal, refusal, refusal_at, unless}
 use Rattle.layer_meaning.specs.Guarded.{guarded, guarded_link, held_at, touched}
 use Rattle.layer_meaning.specs.Heights.{above}
@@ -51,11 +53,9 @@ module _ (ps : List ℕ) (h : ℕ) where
   out_same : (p : ℕ) (o : Option Link) → leads_out p (guarded_link ps h o) ≡ leads_out p o
   out_same p o = either_way (leads_out p) h (out_held p h) (touched ps o) o
 
-  pub next_into : (p : ℕ) (ls : List (Option Link)) (k : ℕ) (r : Option ℕ) → Next (leads_into p) ls k r → Next (leads_into p) (map (guarded_link ps h) ls) k r
-  next_into p = next_mapped (guarded_link ps h) refl (leads_into p) (leads_into p) (into_same p)
-
-  pub next_out : (p : ℕ) (ls : List (Option Link)) (k : ℕ) (r : Option ℕ) → Next (leads_out p) ls k r → Next (leads_out p) (map (guarded_link ps h) ls) k r
-  next_out p = next_mapped (guarded_link ps h) refl (leads_out p) (leads_out p) (out_same p)
+  pub next_guarded : (e : End) (p : ℕ) (ls : List (Option Link)) (k : ℕ) (r : Option ℕ) → Next (leads_at e p) ls k r → Next (leads_at e p) (map (guarded_link ps h) ls) k r
+  next_guarded To p = next_mapped (guarded_link ps h) refl (leads_into p) (leads_into p) (into_same p)
+  next_guarded From p = next_mapped (guarded_link ps h) refl (leads_out p) (leads_out p) (out_same p)
 
 pub links_held : GuardLinks
 links_held ps m n = link_mapped (guarded_link ps (above m.height)) refl m.links n

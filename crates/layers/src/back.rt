@@ -4,7 +4,7 @@ ghost use Rattle.chart.specs.Questions.{answered};
 ghost use Rattle.layer_meaning.proofs.Returning.{lawful_returned};
 ghost use Rattle.layer_meaning.specs.Returned.{returned, reversed};
 
-use chart::{Chart, ChartFault, Link};
+use chart::{Chart, ChartFault, End, Link};
 use price::PriceKind;
 
 // A chart one higher, in which each link leads the other way, from the goal to the start. Every estimate is zero, all
@@ -69,46 +69,20 @@ impl<C: Chart> Chart for Return<C> {
     }
 
     fn link(&self, number: u16) -> Option<Link<C::Price>> {
-        let link = self.chart.link(number)?;
-        Some(reversed_link(link))
+        self.chart.link(number).map(reversed_link)
     }
 
     fn estimate(&self, place: u16) -> Option<C::Price> {
-        match self.chart.estimate(place) {
-            Some(_) => Some(C::Price::zero()),
-            None => None,
-        }
+        self.chart.estimate(place).map(|_| C::Price::zero())
     }
 
-    fn nth_into(&self, place: u16, n: u16) -> Option<u16> {
-        self.chart.nth_out(place, n)
-    }
-
-    fn nth_out(&self, place: u16, n: u16) -> Option<u16> {
-        self.chart.nth_into(place, n)
-    }
-
-    fn next_into(&self, place: u16, from: u16) -> Option<u16> {
-        self.chart.next_out(place, from)
-    }
-
-    fn next_out(&self, place: u16, from: u16) -> Option<u16> {
-        self.chart.next_into(place, from)
-    }
-
-    fn row_length(&self) -> usize {
-        self.chart.row_length()
-    }
-
-    fn ceiling(&self) -> u64 {
-        self.chart.ceiling()
-    }
-
-    fn largest(&self, position: usize) -> Option<u64> {
-        self.chart.largest(position)
+    fn next_link(&self, end: End, place: u16, from: u16) -> Option<u16> {
+        self.chart.next_link(end.opposite(), place, from)
     }
 
     fn set_price(&mut self, link: u16, price: C::Price) -> Result<(), ChartFault> {
         self.chart.set_price(link, price)
     }
+
+    ghost priced_in = { λ s. C.Chart.priced_in s.chart };
 }

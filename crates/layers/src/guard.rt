@@ -4,31 +4,33 @@ ghost use Rattle.chart.specs.Meaning.{link_at};
 ghost use Rattle.chart.specs.Questions.{answered};
 ghost use Rattle.chart.specs.Refusals.{number, refused, told, unless};
 ghost use Rattle.layer_meaning.proofs.Guarding.{lawful_guarded};
-ghost use Rattle.layer_meaning.specs.Guarded.{guarded, held_at, touched};
+ghost use Rattle.layer_meaning.specs.Guarded.{guarded, held_at, is_among, touched};
 ghost use Rattle.layer_meaning.specs.Heights.{above};
 ghost use Rattle.layers.specs.Listing.{listing_refusal, with_place};
-ghost use Rattle.layers.specs.Places.{places_of};
 
-use crate::listed::Listed;
-use chart::{Cause, Chart, ChartFault, Link};
+use arrayvec::ArrayVec;
+use chart::{Cause, Chart, ChartFault, End, Link};
 use price::PriceKind;
+
+// How many places a guard lists at most.
+const MOST: usize = 64;
 
 // A chart one higher, in which a link with a listed end is closed and held. All else is as in the chart below.
 #[derive(Drop)]
 pub struct Guard<C: Chart> {
     chart: C,
-    listed: Listed,
+    listed: ArrayVec<u16, MOST>,
 }
 
 impl<C: Chart> Guard<C> {
     // A guard that lists no place yet.
     pub fn over(chart: C) -> Guard<C>
         ensures below { result.chart ≡ chart }
-        ensures listed { places_of result.listed ≡ [] }
+        ensures listed { result.listed.items ≡ [] }
     {
         Guard {
             chart,
-            listed: Listed::none(),
+            listed: ArrayVec::new(),
         }
     }
 
@@ -41,26 +43,36 @@ impl<C: Chart> Guard<C> {
 
     // Lists one more place. A refusal leaves everything as it was.
     pub fn list(&mut self, place: u16) -> Result<(), ChartFault>
-        ensures answer { refused result ≡ listing_refusal (C.Chart.meaning self.old.chart) (places_of self.old.listed) place }
-        ensures after { places_of self.new.listed ≡ unless (listing_refusal (C.Chart.meaning self.old.chart) (places_of self.old.listed) place) (places_of self.old.listed) (with_place (places_of self.old.listed) place) }
+        ensures answer { refused result ≡ listing_refusal (C.Chart.meaning self.old.chart) self.old.listed.items place }
+        ensures after { self.new.listed.items ≡ unless (listing_refusal (C.Chart.meaning self.old.chart) self.old.listed.items place) self.old.listed.items (with_place self.old.listed.items place) }
         ensures below { self.new.chart ≡ self.old.chart }
         ensures same { is_err result ≡ true → self.new ≡ self.old }
     {
         if place >= self.chart.places() {
             return Err(self.refuse(Cause::OutsideLimits, None));
         }
-        if self.listed.add(place) {
-            Ok(())
-        } else {
-            Err(self.refuse(Cause::GuardFull, None))
+        if self.lists(place) {
+            return Ok(());
         }
+        if self.listed.len() == MOST {
+            return Err(self.refuse(Cause::GuardFull, None));
+        }
+        self.listed.push(place);
+        Ok(())
+    }
+
+    // Is the place listed?
+    fn lists(&self, place: u16) -> bool
+        ensures { result ≡ is_among self.now.listed.items place }
+    {
+        self.listed.contains(&place)
     }
 
     // Has the link a listed end?
     fn touches(&self, link: Link<C::Price>) -> bool
-        ensures { result ≡ touched (places_of self.now.listed) (Some (answered C.Price.PriceKind.value link)) }
+        ensures { result ≡ touched self.now.listed.items (Some (answered C.Price.PriceKind.value link)) }
     {
-        self.listed.has(link.from) || self.listed.has(link.to)
+        self.lists(link.from) || self.lists(link.to)
     }
 
     // The link as the guard holds it.
@@ -87,21 +99,20 @@ impl<C: Chart> Guard<C> {
 
     // Has the link of this number a listed end?
     fn holds(&self, number: u16) -> bool
-        ensures { result ≡ touched (places_of self.now.listed) (link_at (C.Chart.meaning self.now.chart) number) }
+        ensures { result ≡ touched self.now.listed.items (link_at (C.Chart.meaning self.now.chart) number) }
     {
-        match self.chart.link(number) {
-            Some(link) => self.touches(link),
-            None => false,
-        }
+        self.chart
+            .link(number)
+            .is_some_and(|link| self.touches(link))
     }
 }
 
 impl<C: Chart> Chart for Guard<C> {
     type Price = C::Price;
 
-    ghost meaning = { λ s. guarded (places_of s.listed) (C.Chart.meaning s.chart) };
+    ghost meaning = { λ s. guarded s.listed.items (C.Chart.meaning s.chart) };
 
-    ghost lawful = { λ s. lawful_guarded (places_of s.listed) (C.Chart.meaning s.chart) (C.Chart.lawful s.chart) };
+    ghost lawful = { λ s. lawful_guarded s.listed.items (C.Chart.meaning s.chart) (C.Chart.lawful s.chart) };
 
     fn places(&self) -> u16 {
         self.chart.places()
@@ -125,43 +136,19 @@ impl<C: Chart> Chart for Guard<C> {
 
     fn link(&self, number: u16) -> Option<Link<C::Price>> {
         let link = self.chart.link(number)?;
-        if self.touches(link) {
-            Some(self.held(link))
+        Some(if self.touches(link) {
+            self.held(link)
         } else {
-            Some(link)
-        }
+            link
+        })
     }
 
     fn estimate(&self, place: u16) -> Option<C::Price> {
         self.chart.estimate(place)
     }
 
-    fn nth_into(&self, place: u16, n: u16) -> Option<u16> {
-        self.chart.nth_into(place, n)
-    }
-
-    fn nth_out(&self, place: u16, n: u16) -> Option<u16> {
-        self.chart.nth_out(place, n)
-    }
-
-    fn next_into(&self, place: u16, from: u16) -> Option<u16> {
-        self.chart.next_into(place, from)
-    }
-
-    fn next_out(&self, place: u16, from: u16) -> Option<u16> {
-        self.chart.next_out(place, from)
-    }
-
-    fn row_length(&self) -> usize {
-        self.chart.row_length()
-    }
-
-    fn ceiling(&self) -> u64 {
-        self.chart.ceiling()
-    }
-
-    fn largest(&self, position: usize) -> Option<u64> {
-        self.chart.largest(position)
+    fn next_link(&self, end: End, place: u16, from: u16) -> Option<u16> {
+        self.chart.next_link(end, place, from)
     }
 
     fn set_price(&mut self, link: u16, price: C::Price) -> Result<(), ChartFault> {
@@ -170,4 +157,6 @@ impl<C: Chart> Chart for Guard<C> {
         }
         self.chart.set_price(link, price)
     }
+
+    ghost priced_in = { λ s. C.Chart.priced_in s.chart };
 }

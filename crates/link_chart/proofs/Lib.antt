@@ -1,4 +1,3 @@
 mod Filled
-mod Places
 mod Repricing
 mod Tables

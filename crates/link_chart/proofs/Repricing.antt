@@ -7,9 +7,9 @@ use Rattle.chart.specs.Refusals.{Refusal, refusal_at}
 use Rattle.chart_file.specs.Records.{estimate_of, floor_of, keeps_estimate, keeps_rules, lifts_ms, link_in, link_of, no_link, place_in, price_of, records_mean}
 use Rattle.chart_file.specs.declared.records.LinkRecord.{LinkRecord}
 use Rattle.chart_file.specs.declared.records.PlaceRecord.{PlaceRecord}
-use Rattle.link_chart.specs.Ends.{table_of}
+use Rattle.link_chart.specs.Tables.{table_of}
 use Rattle.link_chart.specs.Repriced.{repriced}
-use Rattle.link_chart.specs.Rules.{Estimated, Ruled}
+use Rattle.chart_file.specs.Rules.{Estimated, Ruled, Rules}
 use Rattle.link_chart.proofs.Tables.{table_at, table_past}
 use Rattle.price.specs.Kinds.{lift_kind, lift_value}
 use Rattle.price.specs.declared.lift.Lift.{Lift}
@@ -30,7 +30,7 @@ not_both : (p : Price) (f : Price) → (less p f || not (linkable lift_kind p)) 
 not_both p f h = let q = or_parts (less p f) (not (linkable lift_kind p)) h in (q.0, not-false (linkable lift_kind p) q.1)
 
 none_test : (b : Bool) (r : Refusal) → None ≡ cond b (Some r) None → b ≡ false
-none_test true r e = let z : ◌≡◌ {A = ℕ} 0 1 = cc in absurd (omega arith)
+none_test true r e = cc
 none_test false r e = refl
 
 module _ (ls : List LinkRecord) (count n : ℕ) (room : count ≤ length ls) (p : Price)
@@ -38,7 +38,7 @@ module _ (ls : List LinkRecord) (count n : ℕ) (room : count ≤ length ls) (p 
   pub inside : n < count
   inside = ⊎_elim (λ (l : n < count). l)
       (λ (l : count ≤ n). let e = accepted ∙ ap (λ (o : Option Link). refusal_at lift_kind o n p) (table_past ls count n room l) in
-      let z : ◌≡◌ {A = ℕ} 0 1 = cc in absurd (omega arith)) (cases_lt n count)
+      cc) (cases_lt n count)
 
   pub allowed : (less p (floor_of (get_or ls n no_link)) ≡ false) × (linkable lift_kind p ≡ true)
   allowed = not_both p (floor_of (get_or ls n no_link))
@@ -89,10 +89,15 @@ module _ (places : ℕ) (r : LinkRecord) (v : Lift) (kept : keeps_rules places r
 
 -- the whole table
 
+-- link records in memory, as many as a chart counts, beside its place records
+pub record Kept (start goal : ℕ) (ps : List PlaceRecord) (count : ℕ) (ls : List LinkRecord) : Type 0 where
+  pub room : count ≤ length ls
+  pub rules : Rules start goal ps (take count ls)
+
 module _ (start goal : ℕ) (ps : List PlaceRecord) (ls : List LinkRecord) (count n : ℕ) (room : count ≤ length ls) (v : Lift)
     (accepted : None ≡ refusal_at lift_kind (get_or (table_of (take count ls)) n None) n (lift_value v))
-    (ruled : Ruled ps (take count ls)) where
-  pub here : n < count
+    (R : Rules start goal ps (take count ls)) where
+  here : n < count
   here = inside ls count n room (lift_value v) accepted
 
   old_at : (k : ℕ) → k < count → link_in (take count ls) k ≡ get_or ls k no_link
@@ -101,10 +106,10 @@ module _ (start goal : ℕ) (ps : List PlaceRecord) (ls : List LinkRecord) (coun
   long : length (take count ls) ≡ count
   long = length-take-le count ls room
 
-  pub room_after : count ≤ length (set ls n (repriced (get_or ls n no_link) (lift_value v)))
+  room_after : count ≤ length (set ls n (repriced (get_or ls n no_link) (lift_value v)))
   room_after = let e = length-set ls n (repriced (get_or ls n no_link) (lift_value v)) in omega arith
 
-  pub length_after : length (take count (set ls n (repriced (get_or ls n no_link) (lift_value v)))) ≡ length (take count ls)
+  length_after : length (take count (set ls n (repriced (get_or ls n no_link) (lift_value v)))) ≡ length (take count ls)
   length_after = length-take-le count (set ls n (repriced (get_or ls n no_link) (lift_value v))) room_after ∙ sym long
 
   -- what holds of the new record, and of the others as they were, holds of each
@@ -120,19 +125,34 @@ module _ (start goal : ℕ) (ps : List PlaceRecord) (ls : List LinkRecord) (coun
       (cases_eq k n)
 
   kept_here : keeps_rules (length ps) (get_or ls n no_link) ≡ true
-  kept_here = sym (ap (keeps_rules (length ps)) (old_at n here)) ∙ ruled n (omega (arith, here, long))
+  kept_here = sym (ap (keeps_rules (length ps)) (old_at n here)) ∙ R.ruled n (omega (arith, here, long))
 
   permitted : (less (lift_value v) (floor_of (get_or ls n no_link)) ≡ false) × (linkable lift_kind (lift_value v) ≡ true)
   permitted = allowed ls count n room (lift_value v) accepted
 
-  pub ruled_after : Ruled ps (take count (set ls n (repriced (get_or ls n no_link) (lift_value v))))
-  ruled_after = each (λ (r : LinkRecord). keeps_rules (length ps) r ≡ true) (rules_repriced (length ps) (get_or ls n no_link) v kept_here permitted) ruled
+  ruled_after : Ruled ps (take count (set ls n (repriced (get_or ls n no_link) (lift_value v))))
+  ruled_after = each (λ (r : LinkRecord). keeps_rules (length ps) r ≡ true) (rules_repriced (length ps) (get_or ls n no_link) v kept_here permitted) R.ruled
 
-  pub estimated_after : Estimated ps (take count ls) → Estimated ps (take count (set ls n (repriced (get_or ls n no_link) (lift_value v))))
-  estimated_after fair =
+  estimated_after : Estimated ps (take count (set ls n (repriced (get_or ls n no_link) (lift_value v))))
+  estimated_after =
       let holds : LinkRecord → Type 0 = λ r. keeps_estimate (estimate_of (place_in ps r.from)) (estimate_of (place_in ps r.to)) r ≡ true in
-      let old : holds (get_or ls n no_link) = subst holds (old_at n here) (fair n (omega (arith, here, long))) in
-      each holds old fair
+      let old : holds (get_or ls n no_link) = subst holds (old_at n here) (R.estimated n (omega (arith, here, long))) in
+      each holds old R.estimated
+
+  pub kept : Kept start goal ps count (set ls n (repriced (get_or ls n no_link) (lift_value v)))
+  kept = record {
+    room = room_after;
+    rules = record {
+      places_few = R.places_few;
+      start_in = R.start_in;
+      goal_in = R.goal_in;
+      links_few = omega (arith, length_after, R.links_few);
+      small = R.small;
+      ruled = ruled_after;
+      goal_zero = R.goal_zero;
+      estimated = estimated_after;
+    };
+  }
 
   pub priced_after : records_mean start goal ps (take count (set ls n (repriced (get_or ls n no_link) (lift_value v)))) ≡ priced (records_mean start goal ps (take count ls)) n (lift_value v)
   priced_after =

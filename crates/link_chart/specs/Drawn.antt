@@ -1,15 +1,15 @@
 -- What a link chart means.
-use Rattle.std.specs.Prelude.{ℕ, List, ◌++◌, length, take, drop, Option}
+use Rattle.std.specs.Prelude.{ℕ, List, length, take, Option}
 use Rattle.chart.specs.Lawful.{Lawful}
 use Rattle.chart.specs.Meaning.{Meaning}
 use Rattle.chart.specs.Refusals.{Refusal}
 use Rattle.chart_file.proofs.Lawful.{records_lawful}
 use Rattle.chart_file.specs.Checks.{file_refusal}
-use Rattle.chart_file.specs.File as File
+use Rattle.chart_file.specs.File.{filled, link_layout, place_layout}
 use Rattle.chart_file.specs.Records.{records_mean}
 use Rattle.chart_file.specs.declared.records.LinkRecord.{LinkRecord}
 use Rattle.chart_file.specs.declared.records.PlaceRecord.{PlaceRecord}
-use Rattle.link_chart.specs.Rules.{places_of}
+use Rattle.link_chart.specs.Places.{places_of}
 use Rattle.link_chart.specs.declared.over.LinkChart.{LinkChart}
 
 abbrev pub place_records : LinkChart → List PlaceRecord
@@ -23,16 +23,7 @@ abbrev pub chart_of : LinkChart → Meaning
 chart_of c = records_mean c.start c.goal (place_records c) (link_records c)
 
 pub chart_lawful : (c : LinkChart) → Lawful (chart_of c)
-chart_lawful c = records_lawful c.start c.goal (place_records c) (link_records c) (record {
-  places_few = c.places_few;
-  start_in = c.start_in;
-  goal_in = c.goal_in;
-  links_few = c.links_few;
-  small = c.small;
-  ruled = c.ruled;
-  goal_zero = c.goal_zero;
-  estimates = c.estimated;
-})
+chart_lawful c = records_lawful c.start c.goal (place_records c) (link_records c) c.rules
 
 -- what reading a file into the chart is refused by, if it is
 abbrev pub read_refusal : LinkChart → List ℕ → Option Refusal
@@ -40,7 +31,7 @@ read_refusal c file = file_refusal file (length c.places.now) (length c.links.no
 
 -- the memory once a file was read: its records, then what was there
 abbrev pub filled_places : LinkChart → List ℕ → List PlaceRecord
-filled_places c file = File.place_records file ++ drop (File.trailer_of file).places c.places.now
+filled_places c file = filled place_layout file c.places.now
 
 abbrev pub filled_links : LinkChart → List ℕ → List LinkRecord
-filled_links c file = File.link_records file ++ drop (File.trailer_of file).links c.links.now
+filled_links c file = filled link_layout file c.links.now

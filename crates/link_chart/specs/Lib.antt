@@ -1,4 +1,4 @@
-pub mod Rules
+pub mod Places
 pub mod Drawn
-pub mod Ends
+pub mod Tables
 pub mod Repriced

@@ -1,10 +1,10 @@
 // A link chart is a chart.
 ghost use Rattle.link_chart.specs.Drawn.{chart_lawful, chart_of};
+ghost use Rattle.std.specs.Prelude.{refl};
 
 use crate::over::LinkChart;
-use crate::search::{End, next_at, nth_at};
-use chart::{Chart, ChartFault, Link, price_refusal};
-use price::{Lift, PriceKind};
+use chart::{Chart, ChartFault, End, Link};
+use price::Lift;
 
 impl<'a> Chart for LinkChart<'a> {
     type Price = Lift;
@@ -13,8 +13,9 @@ impl<'a> Chart for LinkChart<'a> {
 
     ghost lawful = { chart_lawful };
 
+    // A chart that no file was read into has one place.
     fn places(&self) -> u16 {
-        self.place_total()
+        self.place_count.max(1)
     }
 
     fn start(&self) -> u16 {
@@ -30,13 +31,11 @@ impl<'a> Chart for LinkChart<'a> {
     }
 
     fn link_numbers(&self) -> u16 {
-        self.link_total()
+        self.link_count
     }
 
     fn link(&self, number: u16) -> Option<Link<Lift>> {
-        let Some(record) = self.link_record(number) else {
-            return None;
-        };
+        let record = self.link_record(number)?;
         Some(Link {
             from: record.from,
             to: record.to,
@@ -47,45 +46,23 @@ impl<'a> Chart for LinkChart<'a> {
     }
 
     fn estimate(&self, place: u16) -> Option<Lift> {
-        match self.place_record(place) {
-            Some(record) => Some(record.estimate()),
-            None => None,
+        self.place_record(place).map(Lift::from)
+    }
+
+    fn next_link(&self, end: End, place: u16, from: u16) -> Option<u16> {
+        for n in from..self.link_count {
+            if self.leads_at(n, end, place) {
+                return Some(n);
+            }
         }
-    }
-
-    fn nth_into(&self, place: u16, n: u16) -> Option<u16> {
-        nth_at(self.links, self.link_count, End::To, place, n)
-    }
-
-    fn nth_out(&self, place: u16, n: u16) -> Option<u16> {
-        nth_at(self.links, self.link_count, End::From, place, n)
-    }
-
-    fn next_into(&self, place: u16, from: u16) -> Option<u16> {
-        next_at(self.links, self.link_count, End::To, place, from)
-    }
-
-    fn next_out(&self, place: u16, from: u16) -> Option<u16> {
-        next_at(self.links, self.link_count, End::From, place, from)
-    }
-
-    fn row_length(&self) -> usize {
-        Lift::row_length()
-    }
-
-    fn ceiling(&self) -> u64 {
-        Lift::ceiling()
-    }
-
-    fn largest(&self, position: usize) -> Option<u64> {
-        Lift::largest(position)
+        None
     }
 
     fn set_price(&mut self, link: u16, price: Lift) -> Result<(), ChartFault> {
-        if let Some(fault) = price_refusal(link, self.link(link), price) {
-            return Err(fault);
-        }
+        self.check_price(link, price)?;
         self.reprice(link, price);
         Ok(())
     }
+
+    ghost priced_in = { λ _. refl };
 }

@@ -6,6 +6,5 @@ mod memory;
 pub mod over;
 pub mod read;
 mod reprice;
-pub mod search;
 
 pub use over::LinkChart;

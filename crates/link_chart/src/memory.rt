@@ -1,6 +1,7 @@
 // What a link chart's memory holds, and how it changes. The chart's own calls rest on these.
 ghost use Rattle.std.specs.Prelude.{◌≡◌, length, None};
-ghost use Rattle.chart.specs.Meaning.{link_at, places as place_count, priced};
+ghost use Rattle.chart.specs.Meaning.{link_at, priced};
+ghost use Rattle.chart.specs.Questions.{leads_at};
 ghost use Rattle.chart.specs.Refusals.{refusal};
 ghost use Rattle.chart_file.specs.Checks.{Passed};
 ghost use Rattle.chart_file.specs.File.{drawn};
@@ -12,48 +13,35 @@ ghost use Rattle.std.specs.List.{slice_get};
 
 use crate::over::LinkChart;
 use crate::reprice::with_price;
-use chart_file::{LinkRecord, PlaceRecord, Trailer, copy_links, copy_places};
+use chart::End;
+use chart_file::{LinkRecord, PlaceRecord, Trailer, copy_records};
 use price::Lift;
 
 impl LinkChart<'_> {
-    pub(crate) fn place_total(&self) -> u16
-        ensures { result ≡ place_count (chart_of self.now) }
-    {
-        if self.place_count == 0 {
-            1
-        } else {
-            self.place_count
-        }
-    }
-
-    pub(crate) fn link_total(&self) -> u16
-        ensures { result ≡ length (chart_of self.now).links }
-    {
-        self.link_count
-    }
-
     // The record of a place; zeros for the one place of a chart that no file was read into.
     pub(crate) fn place_record(&self, place: u16) -> Option<PlaceRecord>
         ensures { option_map estimate_of result ≡ slice_get (chart_of self.now).estimates place }
     {
-        if place < self.place_count {
-            return Some(self.places[usize::from(place)]);
+        if self.place_count == 0 {
+            return (place == 0).then_some(PlaceRecord::default());
         }
-        if place < self.place_total() {
-            Some(PlaceRecord { lifts: 0, ms: 0 })
-        } else {
-            None
-        }
+        let places = &self.places[..usize::from(self.place_count)];
+        places.get(usize::from(place)).copied()
     }
 
     pub(crate) fn link_record(&self, number: u16) -> Option<LinkRecord>
         ensures { option_map link_of result ≡ link_at (chart_of self.now) number }
     {
-        if number < self.link_count {
-            Some(self.links[usize::from(number)])
-        } else {
-            None
-        }
+        let links = &self.links[..usize::from(self.link_count)];
+        links.get(usize::from(number)).copied()
+    }
+
+    // Does a link have this end at a place?
+    pub(crate) fn leads_at(&self, number: u16, end: End, place: u16) -> bool
+        ensures { result ≡ leads_at end place (link_at (chart_of self.now) number) }
+    {
+        self.link_record(number)
+            .is_some_and(|link| link.end(end) == place)
     }
 
     // Sets the price of a link, which is not refused.
@@ -61,8 +49,8 @@ impl LinkChart<'_> {
         requires { None ≡ refusal (chart_of self.old) link (lift_value price) }
         ensures { chart_of self.new ≡ priced (chart_of self.old) link (lift_value price) }
     {
-        let record = with_price(self.links[usize::from(link)], price);
-        self.links[usize::from(link)] = record;
+        let n = usize::from(link);
+        self.links[n] = with_price(self.links[n], price);
     }
 
     // Fills the memory from a file that passed every check.
@@ -74,6 +62,7 @@ impl LinkChart<'_> {
         ensures link_memory { self.new.links.now ≡ filled_links self.old file.now }
         ensures lender { (self.new.places.ghost_name ≡ self.old.places.ghost_name) × (self.new.links.ghost_name ≡ self.old.links.ghost_name) }
     {
+        // All fields at once: the rules hold again when each is set.
         let LinkChart {
             places,
             links,
@@ -82,8 +71,8 @@ impl LinkChart<'_> {
             place_count,
             link_count,
         } = self;
-        copy_places(file, places);
-        copy_links(file, links);
+        copy_records(file, places);
+        copy_records(file, links);
         *start = trailer.start;
         *goal = trailer.goal;
         *place_count = trailer.places;

@@ -3,7 +3,7 @@ ghost use Rattle.std.specs.Prelude.{◌≡◌, true, is_err};
 ghost use Rattle.chart.specs.Refusals.{refused, unless};
 ghost use Rattle.chart_file.specs.File.{drawn};
 ghost use Rattle.link_chart.specs.Drawn.{chart_of, filled_links, filled_places, read_refusal};
-ghost use Rattle.link_chart.specs.Rules.{one_place};
+ghost use Rattle.link_chart.specs.Places.{one_place};
 
 use crate::over::LinkChart;
 use chart::ChartFault;

@@ -12,30 +12,16 @@ pub(crate) fn with_price(link: LinkRecord, price: Lift) -> LinkRecord
     requires { linkable lift_kind (lift_value price) ≡ true }
     ensures { result ≡ repriced link (lift_value price) }
 {
-    let LinkRecord {
-        from,
-        to,
-        floor_lifts,
-        price_lifts: _,
-        floor_ms,
-        price_ms: _,
-    } = link;
-    let Lift::Open { lifts, ms } = price else {
-        return LinkRecord {
-            from,
-            to,
-            floor_lifts,
+    match price {
+        Lift::Open { lifts, ms } => LinkRecord {
+            price_lifts: lifts.get() as u16,
+            price_ms: ms.get() as u32,
+            ..link
+        },
+        Lift::Closed => LinkRecord {
             price_lifts: 0,
-            floor_ms,
             price_ms: 0,
-        };
-    };
-    LinkRecord {
-        from,
-        to,
-        floor_lifts,
-        price_lifts: lifts.get() as u16,
-        floor_ms,
-        price_ms: ms.get() as u32,
+            ..link
+        },
     }
 }

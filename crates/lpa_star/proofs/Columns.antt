@@ -1,11 +1,13 @@
 -- One place of a column of the memory: read, and written.
-use Rattle.std.proofs.Common.{◌≡◌, ℕ, zero, suc, ◌<◌, ◌≤◌, Bool, true, false, ltb, List, [], ◌∷◌, length, get_or, set, None, Option, unwrap_or, sym, refl, ap, ◌∙◌, ⊎_elim, arith}
+use Rattle.std.proofs.Common.{◌≡◌, ℕ, zero, suc, ◌<◌, ◌≤◌, Bool, true, false, ltb, List, [], ◌∷◌, length, get_or, set, Some, None, Option, unwrap_or, sym, refl, ap, ◌∙◌, ⊎_elim, arith}
 use Rattle.std.proofs.lemmas.List.{get_or-set_other, length-map, set_past}
 use Rattle.std.proofs.lemmas.Bool.{cases_Bool, ltb-false}
 use Rattle.std.proofs.lemmas.Option.{slice_get-get_or}
 use Rattle.std.specs.List.{slice_get}
+use Rattle.std.specs.Option.{option_map}
 use Rattle.rows.specs.Rows.{Price}
 use Rattle.bench.specs.declared.bench.Bench.{Bench}
+use Rattle.bench.specs.declared.key.Key.{Key as PriceKey}
 use Rattle.bench.specs.Contents.{keys, lookaheads, room, standings}
 
 nth_value : {X : Type 0} (xs : List X) (i : ℕ) (d : X) → unwrap_or (slice_get xs i) d ≡ get_or xs i d
@@ -17,7 +19,13 @@ nth_value (x ∷ xs) (suc i) d = nth_value xs i d
 pub read : {X : Type 0} (xs : List X) (i : ℕ) (d : X) (o : Option X) → o ≡ slice_get xs i → unwrap_or o d ≡ get_or xs i d
 read xs i d o e = ap (λ x. unwrap_or x d) e ∙ nth_value xs i d
 
-module _ {P : Type 0} (v : P → Price) (b : Bench P) where
+-- a value read from a column, or the one that stands for none
+pub read_or : {P X : Type 0} (v : P → X) (o : Option P) (d : P) (xs : List X) (i : ℕ) (e : X) → option_map v o ≡ slice_get xs i → v d ≡ e →
+    v (unwrap_or o d) ≡ get_or xs i e
+read_or v None d xs i e h c = c ∙ read xs i e None h
+read_or v (Some x) d xs i e h c = read xs i e (Some (v x)) h
+
+module _ {P : Type 0} (v : P → Price) (b : Bench P (PriceKey P)) where
   pub standings_long : length (standings v b) ≡ room b
   standings_long = length-map b.records.now _
 

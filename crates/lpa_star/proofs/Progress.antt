@@ -1,11 +1,18 @@
 -- A repair as a loop takes its steps.
-use Rattle.std.proofs.Common.{◌≡◌, ℕ, suc, ◌+◌, ◌-◌, ◌*◌, ◌<◌, ◌≤◌, false, length, Some, sym, ap, ◌∙◌, arith}
+use Rattle.std.proofs.Common.{◌≡◌, ℕ, suc, ◌+◌, ◌-◌, ◌*◌, ◌<◌, ◌≤◌, true, false, length, Some, None, Option, sym, refl, ap, ◌∙◌, arith}
+use Rattle.std.proofs.lemmas.Bool.{both_ways}
+use Rattle.std.specs.Option.{is_some}
 use Rattle.chart.specs.Meaning.{Meaning, places}
 use Rattle.lifelong.specs.Step.{next, settled, step}
 use Rattle.lifelong.specs.Run.{after, repair, run, stopped}
 use Rattle.lifelong.proofs.Runs.{expansion, run_none, run_step}
 use Rattle.lpa_star.specs.Memory.{Memory}
+use Rattle.lpa_star.specs.Steps.{after_step}
 use Rattle.lpa_star.specs.UpToDate.{UpToDate}
+
+pub none_of_some : (o : Option ℕ) → is_some o ≡ false → o ≡ None
+none_of_some None e = refl
+none_of_some (Some n) e = absurd (both_ways true e refl)
 
 -- s steps of the repair from d are done, and what is left of it begins at e
 pub record Done (m : Meaning) (d e : Memory) (s : ℕ) : Type 0 where
@@ -34,6 +41,12 @@ module _ (m : Meaning) (d : Memory) where
         let c2 = ap (λ x. length x.steps) t in
         let c3 = h.count in
         record { current = i; count = omega arith; left = h.left ∙ ap (λ x. x.left) r ∙ ap (λ x. x.left) t }
+
+    -- a step that found a place, and one that found none
+    pub done_on : (f : Memory) (o : Option ℕ) → is_some o ≡ true → s < 2 * places m → settled m e.standings ≡ false → next m e.standings ≡ o →
+        f.standings ≡ after_step m e.standings o → UpToDate m f → Done m d f (s + 1)
+    done_on f None z l u n es i = absurd (both_ways false refl z)
+    done_on f (Some p) z l u n es i = done_more f p l u n es i
 
     -- where the rest of the repair takes no step
     module _ (r : run m (2 * places m - s) e.standings ≡ stopped e.standings) where

@@ -2,6 +2,7 @@
 use Rattle.std.proofs.Common.{◌≡◌, ℕ, ◌+◌, ◌<◌, ◌≤◌, false, eqb, get_or, set, Some, None, Option, sym, refl, ap, ◌∙◌, ⊎_elim, arith}
 use Rattle.std.proofs.lemmas.List.{get_or-set_other}
 use Rattle.std.proofs.lemmas.Bool.{and_from, and_left, and_right, both_ways, cases_eq, cases_lt, eq-eqb, ne_eqb}
+use Rattle.std.specs.Option.{option_map}
 use Rattle.rows.specs.Rows.{Kind, Price, closed}
 use Rattle.chart.specs.Lawful.{LinkLaw}
 use Rattle.chart.specs.Meaning.{Link, Meaning, link_at, places}
@@ -26,6 +27,15 @@ joins_to u q (Some l) n = and_right (eqb l.from u) (eqb l.to q) (ne_eqb l.to q (
 pub to_inside : (k : Kind) (n h u : ℕ) (l : Option Link) → u < n → LinkLaw k n h l → to_of l u < n
 to_inside k n h u None a e = a
 to_inside k n h u (Some l) a e = e.to_in
+
+-- the place that was answered of a link, or none
+pub led : (l : Option Link) (u x : ℕ) → Some x ≡ option_map (λ (k : Link). k.to) l → x ≡ to_of l u
+led None u x e = let z : ◌≡◌ {A = ℕ} 0 1 = cc in absurd (omega arith)
+led (Some l) u x e = cc
+
+pub led_nowhere : (l : Option Link) (u : ℕ) → None ≡ option_map (λ (k : Link). k.to) l → leads_out u l ≡ false
+led_nowhere None u e = refl
+led_nowhere (Some l) u e = let z : ◌≡◌ {A = ℕ} 0 1 = cc in absurd (omega arith)
 
 module _ (m : Meaning) (u : ℕ) where
   none_joins : (q : ℕ) → ((j : ℕ) → joins u q (link_at m j) ≡ false) → NoLink m u q

@@ -3,3 +3,5 @@ pub mod Memory
 pub mod Past
 pub mod UpToDate
 pub mod Closing
+pub mod Outcomes
+pub mod Plans

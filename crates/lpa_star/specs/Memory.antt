@@ -3,6 +3,7 @@ use Rattle.std.specs.Prelude.{◌≡◌, ℕ, ◌<◌, List, map, length, drop, 
 use Rattle.rows.specs.Rows.{Price, closed}
 use Rattle.rows.specs.Keys.{Key, before}
 use Rattle.bench.specs.declared.bench.Bench.{Bench}
+use Rattle.bench.specs.declared.key.Key.{Key as PriceKey}
 use Rattle.bench.specs.Contents.{keys as kept_keys, lookaheads as kept_lookaheads, standings as kept_standings}
 use Rattle.bench.specs.Heap.{Ordered}
 use Rattle.bench.specs.Sorted.{ahead}
@@ -19,7 +20,7 @@ pub record Memory : Type 0 where
   pub used : ℕ
 
 -- that of a bench, where v gives the price that a value stands for
-abbrev pub memory : {P : Type 0} → (P → Price) → Bench P → Memory
+abbrev pub memory : {P : Type 0} → (P → Price) → Bench P (PriceKey P) → Memory
 memory v b = record {
   number = b.number;
   standings = kept_standings v b;

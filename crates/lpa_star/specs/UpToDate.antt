@@ -5,7 +5,10 @@ use Rattle.rows.specs.Keys.{Key}
 use Rattle.chart.specs.Meaning.{Link, Meaning, link_at, places}
 use Rattle.chart.specs.Routes.{joins}
 use Rattle.lifelong.specs.Standings.{key, lookahead, uneven}
-use Rattle.lpa_star.specs.Memory.{InHeapOrder, Memory, Waiting, key_kept}
+use Rattle.bench.specs.Contents.{room}
+use Rattle.bench.specs.declared.bench.Bench.{Bench}
+use Rattle.bench.specs.declared.key.Key.{Key as PriceKey}
+use Rattle.lpa_star.specs.Memory.{InHeapOrder, Memory, Waiting, key_kept, memory}
 
 -- what is kept of place p is right: its lookahead is the defined one, and it is queued, under its key, where it is uneven
 -- and only there. The key that is kept of a place that is not queued is never read, and free.
@@ -33,6 +36,10 @@ pub record UpToDate (m : Meaning) (d : Memory) : Type 0 where
   pub right : (p : ℕ) → p < places m → RightAt m d p
   pub inside : (p : ℕ) → Waiting d p → p < places m
   pub sorted : InHeapOrder d
+
+-- where there is a record for each place, and the bench is up to date
+abbrev pub WhereCurrent : {P : Type 0} → (P → Price) → Meaning → Bench P (PriceKey P) → Type 0 → Type 0
+WhereCurrent v m b X = places m ≤ room b → UpToDate m (memory v b) → X
 
 -- up to date but for place u, and for the places to which a link leads from u, of the links from number k on
 pub record UpToDateBut (m : Meaning) (u k : ℕ) (d : Memory) : Type 0 where

@@ -4,11 +4,12 @@
 
 mod beginning;
 mod look;
+mod plan;
 mod repairing;
 mod repricing;
 mod step;
 
-pub use beginning::begin;
 pub use look::standing_of;
-pub use repairing::{Outcome, repair};
+pub use plan::Plan;
+pub use repairing::Unsettled;
 pub use repricing::reprice;

@@ -6,6 +6,7 @@ use Rattle.rows.specs.Rows.{Price}
 use Rattle.chart.specs.Meaning.{places}
 use Rattle.bench.specs.Keys.{key_of}
 use Rattle.bench.specs.declared.bench.Bench.{Bench}
+use Rattle.bench.specs.declared.key.Key.{Key as PriceKey}
 use Rattle.bench.specs.Contents.{past, room}
 use Rattle.lifelong.specs.Run.{repair as defined_repair}
 use Rattle.lifelong.specs.Standings.{standing_at}
@@ -27,14 +28,14 @@ pub passing : (s : State) (u : Turn) (X : Type 0) → None ≡ precheck s u → 
 passing s u X e f = absurd (both_ways (passes s u) f (ap no_reason (sym e)))
 
 -- there is a record for each place
-pub roomy : {P : Type 0} (v : P → Price) (s : State) (ok : Bool) (b : Bench P) → s.bench ≡ memory v b → None ≡ with_bench ok s → places s.chart ≤ room b
+pub roomy : {P : Type 0} (v : P → Price) (s : State) (ok : Bool) (b : Bench P (PriceKey P)) → s.bench ≡ memory v b → None ≡ with_bench ok s → places s.chart ≤ room b
 roomy v s ok b eb e =
     let l = long_enough s ok (sym e) in
     let z = ap (λ (d : Memory). length d.standings) eb in
     omega (arith, standings_long v b)
 
 -- records that stay whole stay so in each column
-pub same_past : {P : Type 0} (v : P → Price) (n : ℕ) (b d : Bench P) → past n d ≡ past n b → SamePast n (memory v b) (memory v d)
+pub same_past : {P : Type 0} (v : P → Price) (n : ℕ) (b d : Bench P (PriceKey P)) → past n d ≡ past n b → SamePast n (memory v b) (memory v d)
 same_past v n b d e =
     let xs = b.records.now in
     let ys = d.records.now in

@@ -1,4 +1,5 @@
 -- What a fault says: its number, and its values.
+use Rattle.std.specs.Prelude.{Some, None, Ok, Err, Option, Result}
 use Rattle.chart.specs.Refusals.{told as chart_told}
 use Rattle.turns.specs.Turns.{Reason, by_chart, plain, short_buffer}
 use Rattle.trace.specs.declared.tracing.Untraced.{Untraced}
@@ -19,3 +20,8 @@ abbrev pub untraced : Untraced → Fault
 untraced GoalClosed = NoRoute
 untraced StartMissed = NotSettled
 untraced (TooShort n) = ShortBuffer n
+
+-- why a check fails, if it does
+abbrev pub refused_by : Result Unit Fault → Option Reason
+refused_by (Ok _) = None
+refused_by (Err f) = Some (told f)

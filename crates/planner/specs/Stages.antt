@@ -2,6 +2,7 @@
 use Rattle.rows.specs.Rows.{Price}
 use Rattle.chart.specs.Meaning.{Meaning}
 use Rattle.bench.specs.declared.bench.Bench.{Bench}
+use Rattle.bench.specs.declared.key.Key.{Key as PriceKey}
 use Rattle.lpa_star.specs.Memory.{Memory, memory}
 use Rattle.turns.specs.State.{Stage as TurnStage, State, firm, idle, loose}
 use Rattle.planner.specs.declared.parts.Stage.{Stage}
@@ -18,7 +19,7 @@ abbrev pub state_with : {C P : Type 0} → (C → Meaning) → Planner C P → M
 state_with mean p b = record { number = p.number; stage = stage_of p.stage; chart = mean p.chart; bench = b }
 
 -- and value the price that a value stands for
-abbrev pub state : {C P : Type 0} → (C → Meaning) → (P → Price) → Planner C P → Bench P → State
+abbrev pub state : {C P : Type 0} → (C → Meaning) → (P → Price) → Planner C P → Bench P (PriceKey P) → State
 state mean value p b = state_with mean p (memory value b)
 
 -- the same planner at another stage

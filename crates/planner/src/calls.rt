@@ -42,7 +42,7 @@ impl<C: Chart> Planner<C> {
         ensures chart { self.new.chart ≡ self.old.chart }
         ensures lender { bench.new.records.ghost_name ≡ bench.old.records.ghost_name }
     {
-        let in_turn = self.stage.is(Stage::Idle);
+        let in_turn = self.stage == Stage::Idle;
         self.begin_if(in_turn, bench)
     }
 

@@ -1,11 +1,10 @@
 // What every turn looks at first.
 ghost use Rattle.std.specs.Prelude.{◌≡◌, ◌&&◌, ◌==◌};
-ghost use Rattle.std.specs.Option.{option_map};
 ghost use Rattle.turns.specs.State.{same_stage};
 ghost use Rattle.turns.specs.Turns.{in_turn, with_bench};
 ghost use Rattle.lpa_star.specs.Memory.{Memory};
 ghost use Rattle.planner.specs.Answers.{end_with};
-ghost use Rattle.planner.specs.Faults.{told};
+ghost use Rattle.planner.specs.Faults.{refused_by};
 ghost use Rattle.planner.specs.Stages.{stage_of, state, state_with};
 
 use crate::fault::Fault;
@@ -14,20 +13,6 @@ use crate::planner::Planner;
 use bench::Bench;
 use chart::Chart;
 use price::PriceKind;
-
-impl Stage {
-    // Is it this stage?
-    pub(crate) fn is(self, other: Stage) -> bool
-        ensures { result ≡ same_stage (stage_of other) (stage_of self) }
-    {
-        match (other, self) {
-            (Stage::Idle, Stage::Idle) => true,
-            (Stage::Loose, Stage::Loose) => true,
-            (Stage::Firm, Stage::Firm) => true,
-            _ => false,
-        }
-    }
-}
 
 impl Ticket {
     // The ticket is spent.
@@ -44,7 +29,7 @@ impl<C: Chart> Planner<C> {
     pub(crate) fn is_turn(&self, stage: Stage, ticket: u32) -> bool
         ensures { result ≡ (same_stage (stage_of stage) (stage_of self.now.stage) && ticket == self.now.number) }
     {
-        self.stage.is(stage) && ticket == self.number
+        self.stage == stage && ticket == self.number
     }
 
     // Is it the turn of this ticket, of either kind?
@@ -57,16 +42,16 @@ impl<C: Chart> Planner<C> {
         }
     }
 
-    // Why a turn with this bench is refused before anything else: 10, then 9.
-    pub(crate) fn refusal(&self, in_turn: bool, bench: &Bench<C::Price>) -> Option<Fault>
-        ensures { option_map told result ≡ with_bench in_turn (state C.Chart.meaning C.Price.PriceKind.value self.now bench.now) }
+    // Is a turn with this bench accepted so far? Refused by 10, then 9.
+    pub(crate) fn check(&self, in_turn: bool, bench: &Bench<C::Price>) -> Result<(), Fault>
+        ensures { refused_by result ≡ with_bench in_turn (state C.Chart.meaning C.Price.PriceKind.value self.now bench.now) }
     {
         if !in_turn || bench.number() != self.number {
-            return Some(Fault::OutOfTurn);
+            return Err(Fault::OutOfTurn);
         }
-        if bench.len() < self.chart.places() as usize {
-            return Some(Fault::ShortBench);
+        if bench.len() < usize::from(self.chart.places()) {
+            return Err(Fault::ShortBench);
         }
-        None
+        Ok(())
     }
 }

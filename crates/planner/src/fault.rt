@@ -4,23 +4,29 @@ ghost use Rattle.planner.specs.Faults.{told, untraced};
 ghost use Rattle.planner.specs.declared.fault.Fault.TheVariants.{Chart as by_chart};
 
 use chart::ChartFault;
-use std::fmt;
+use thiserror::Error;
 use trace::Untraced;
 
-// What is wrong. `told` gives each case the number by which a person knows it, and its values.
-#[derive(Clone, Copy, PartialEq, Eq, Debug)]
+// What is wrong, as a person is told in one line. `told` gives each case the number by which a person knows it, and its values.
+#[derive(Clone, Copy, PartialEq, Eq, Debug, Error)]
 pub enum Fault {
     // 9: the bench's memory is shorter than the places
+    #[error("the bench has fewer records than the chart has places")]
     ShortBench,
     // 10: ticket or bench bears another number, or the stage is not the ticket's; for begin, not idle
+    #[error("ticket or bench is another planner's, or it is not this ticket's turn")]
     OutOfTurn,
     // 11: a repair is not settled after its steps, or a trace misses the start
+    #[error("the bench is not the one that the plan was begun on")]
     NotSettled,
     // 12: the goal's standing is closed
+    #[error("no route stands")]
     NoRoute,
     // 13: the route is longer than its buffer: how many places it has
+    #[error("the route has {0} places")]
     ShortBuffer(usize),
     // 6, 7 or 8: the chart refuses a price
+    #[error("{0}")]
     Chart(ChartFault),
 }
 
@@ -40,7 +46,7 @@ impl Fault {
     }
 }
 
-// A chart's fault is carried whole.
+// A chart's fault is carried whole. Both conversions are by hand, since clauses name the fault that `?` makes.
 impl From<ChartFault> for Fault {
     ghost from_gives = { λ f r. r ≡ by_chart f };
 
@@ -58,23 +64,6 @@ impl From<Untraced> for Fault {
             Untraced::GoalClosed => Fault::NoRoute,
             Untraced::StartMissed => Fault::NotSettled,
             Untraced::ShortBuffer(places) => Fault::ShortBuffer(places),
-        }
-    }
-}
-
-// What a person is told, in one line.
-impl fmt::Display for Fault {
-    fn fmt<W: fmt::Write>(&self, f: &mut fmt::Formatter<W>) -> fmt::Result {
-        match self {
-            Fault::ShortBench => write!(f, "the bench has fewer records than the chart has places"),
-            Fault::OutOfTurn => write!(
-                f,
-                "ticket or bench is another planner's, or it is not this ticket's turn"
-            ),
-            Fault::NotSettled => write!(f, "the bench is not the one that the plan was begun on"),
-            Fault::NoRoute => write!(f, "no route stands"),
-            Fault::ShortBuffer(places) => write!(f, "the route has {places} places"),
-            Fault::Chart(fault) => write!(f, "{}", fault.cause),
         }
     }
 }

@@ -2,7 +2,7 @@
 use crate::fault::Fault;
 
 // Where a planner stands between two turns.
-#[derive(Clone, Copy)]
+#[derive(Clone, Copy, PartialEq, Eq, Debug)]
 pub enum Stage {
     // no plan is under way
     Idle,
@@ -17,7 +17,8 @@ pub struct Loose {
     pub(crate) number: u32,
 }
 
-// firm ticket: under it the route is traced. It is neither copied nor let go.
+// firm ticket: under it the route is traced. It is neither copied nor let go. Two types of one shape, so that neither call
+// takes the other's ticket; as one type with a parameter they would be no shorter.
 pub struct Firm {
     pub(crate) number: u32,
 }

@@ -1,8 +1,15 @@
 // What the turns do once it is known whether it is their turn.
-ghost use Rattle.std.specs.Prelude.{◌≡◌, ℕ, true, false, length, is_err, None};
-ghost use Rattle.bench.specs.Contents.{standings};
+ghost use Rattle.std.specs.Prelude.{◌≡◌, ℕ, ◌*◌, ◌≤◌, true, false, length, is_err, is_ok, None};
+ghost use Rattle.bench.specs.Contents.{SameLender, past, room, standings};
+ghost use Rattle.chart.specs.Meaning.{places};
+ghost use Rattle.lifelong.specs.Run.{repair as defined_repair};
+ghost use Rattle.lifelong.specs.Step.{settled};
+ghost use Rattle.lpa_star.specs.Closing.{closed_first};
+ghost use Rattle.lpa_star.specs.Outcomes.{steps_of};
+ghost use Rattle.lpa_star.specs.Past.{KeepsPast};
+ghost use Rattle.lpa_star.specs.UpToDate.{UpToDate, WhereCurrent};
 ghost use Rattle.lifelong.specs.Standings.{standing_at};
-ghost use Rattle.lpa_star.specs.Memory.{Memory};
+ghost use Rattle.lpa_star.specs.Memory.{Memory, memory};
 ghost use Rattle.turns.specs.History.{Reachable, passes};
 ghost use Rattle.turns.specs.Promises.{RepairPromises, TracePromises};
 ghost use Rattle.turns.specs.Turned.{Turned};
@@ -16,6 +23,7 @@ use crate::parts::{Firm, Loose, Refused, Repaired, Stage, Ticket};
 use crate::planner::Planner;
 use bench::Bench;
 use chart::Chart;
+use lpa_star::{Plan, Unsettled};
 use price::PriceKind;
 
 impl<C: Chart> Planner<C> {
@@ -52,6 +60,39 @@ impl<C: Chart> Planner<C> {
         self.stage = Stage::Idle;
     }
 
+    // A plan from the beginning.
+    fn set_out(&mut self, bench: &mut Bench<C::Price>)
+        ensures planner { self.new ≡ self.old }
+        ensures lender { SameLender bench.old bench.new }
+        ensures standings { standings C.Price.PriceKind.value bench.new ≡ closed_first (places (C.Chart.meaning self.old.chart)) (standings C.Price.PriceKind.value bench.old) }
+        ensures current { places (C.Chart.meaning self.old.chart) ≤ room bench.old → UpToDate (C.Chart.meaning self.old.chart) (memory C.Price.PriceKind.value bench.new) }
+        ensures past { past (places (C.Chart.meaning self.old.chart)) bench.new ≡ past (places (C.Chart.meaning self.old.chart)) bench.old }
+    {
+        let mut plan = Plan {
+            chart: &self.chart,
+            bench,
+        };
+        plan.begin();
+    }
+
+    // Steps until settled, for two steps for each place at most.
+    fn settle(&mut self, bench: &mut Bench<C::Price>) -> Result<u16, Unsettled>
+        ensures planner { self.new ≡ self.old }
+        ensures lender { SameLender bench.old bench.new }
+        ensures few { steps_of result ≤ 2 * places (C.Chart.meaning self.old.chart) }
+        ensures steps { WhereCurrent C.Price.PriceKind.value (C.Chart.meaning self.old.chart) bench.old (steps_of result ≡ length (defined_repair (C.Chart.meaning self.old.chart) (standings C.Price.PriceKind.value bench.old)).steps) }
+        ensures standings { WhereCurrent C.Price.PriceKind.value (C.Chart.meaning self.old.chart) bench.old (standings C.Price.PriceKind.value bench.new ≡ (defined_repair (C.Chart.meaning self.old.chart) (standings C.Price.PriceKind.value bench.old)).left) }
+        ensures settled { WhereCurrent C.Price.PriceKind.value (C.Chart.meaning self.old.chart) bench.old (is_ok result ≡ settled (C.Chart.meaning self.old.chart) (standings C.Price.PriceKind.value bench.new)) }
+        ensures current { WhereCurrent C.Price.PriceKind.value (C.Chart.meaning self.old.chart) bench.old (UpToDate (C.Chart.meaning self.old.chart) (memory C.Price.PriceKind.value bench.new)) }
+        ensures past { KeepsPast (places (C.Chart.meaning self.old.chart)) bench.old bench.new }
+    {
+        let mut plan = Plan {
+            chart: &self.chart,
+            bench,
+        };
+        plan.repair()
+    }
+
     // The goal's standing.
     fn goal_standing(&self, bench: &Bench<C::Price>) -> C::Price
         ensures { C.Price.PriceKind.value result ≡ standing_at (standings C.Price.PriceKind.value bench.now) (C.Chart.meaning self.now.chart).goal }
@@ -60,6 +101,7 @@ impl<C: Chart> Planner<C> {
     }
 }
 
+// Each is told by its public call whether it is its ticket's turn, so that a wrong turn is refused where it is asked for.
 impl<C: Chart> Planner<C> {
     pub(crate) fn begin_if(
         &mut self,
@@ -71,10 +113,8 @@ impl<C: Chart> Planner<C> {
         ensures chart { self.new.chart ≡ self.old.chart }
         ensures lender { bench.new.records.ghost_name ≡ bench.old.records.ghost_name }
     {
-        if let Some(fault) = self.refusal(in_turn, bench) {
-            return Err(fault);
-        }
-        lpa_star::begin(&self.chart, bench);
+        self.check(in_turn, bench)?;
+        self.set_out(bench);
         Ok(self.loosen())
     }
 
@@ -89,9 +129,7 @@ impl<C: Chart> Planner<C> {
         ensures same { is_err result ≡ true → (self.new ≡ self.old) × (bench.new ≡ bench.old) }
         ensures lender { bench.new.records.ghost_name ≡ bench.old.records.ghost_name }
     {
-        if let Some(fault) = self.refusal(in_turn, bench) {
-            return Err(fault);
-        }
+        self.check(in_turn, bench)?;
         lpa_star::reprice(&mut self.chart, bench, link, price)?;
         Ok(())
     }
@@ -109,18 +147,17 @@ impl<C: Chart> Planner<C> {
         ensures lender { bench.new.records.ghost_name ≡ bench.old.records.ghost_name }
         ensures promise { in_turn ≡ is_turn (state C.Chart.meaning C.Price.PriceKind.value self.old bench.old) (repair_turn ticket.number) → Reachable (state C.Chart.meaning C.Price.PriceKind.value self.old bench.old) → precheck (state C.Chart.meaning C.Price.PriceKind.value self.old bench.old) (repair_turn ticket.number) ≡ None → RepairPromises (state C.Chart.meaning C.Price.PriceKind.value self.old bench.old) (repaired C.Price.PriceKind.value result) }
     {
-        if let Some(fault) = self.refusal(in_turn, bench) {
+        if let Err(fault) = self.check(in_turn, bench) {
             return Err(Refused { ticket, fault });
         }
-        let outcome = lpa_star::repair(&self.chart, bench);
-        if !outcome.settled {
+        let Ok(steps) = self.settle(bench) else {
             return Err(Refused {
                 ticket,
                 fault: Fault::NotSettled,
             });
-        }
+        };
         let distance = self.goal_standing(bench);
-        Ok(self.firm_up(ticket, distance, outcome.steps))
+        Ok(self.firm_up(ticket, distance, steps))
     }
 
     pub(crate) fn trace_if(
@@ -133,9 +170,7 @@ impl<C: Chart> Planner<C> {
         ensures out { WritesOnly result out.old out.new }
         ensures promise { (k : ℕ) → in_turn ≡ is_turn (state C.Chart.meaning C.Price.PriceKind.value self.now bench.now) (trace_turn k (length out.old)) → Reachable (state C.Chart.meaning C.Price.PriceKind.value self.now bench.now) → precheck (state C.Chart.meaning C.Price.PriceKind.value self.now bench.now) (trace_turn k (length out.old)) ≡ None → TracePromises (state C.Chart.meaning C.Price.PriceKind.value self.now bench.now) (length out.old) (traced result out.new) }
     {
-        if let Some(fault) = self.refusal(in_turn, bench) {
-            return Err(fault);
-        }
+        self.check(in_turn, bench)?;
         let places = trace::trace(&self.chart, bench, out)?;
         Ok(places)
     }

@@ -4,9 +4,10 @@ ghost use Rattle.rows.specs.Laws.{Laws};
 ghost use Rattle.rows.specs.Rows.{Kind, Price, Proper, closed, less, linkable, number_at, price_of, sum, zero_of};
 ghost use Rattle.std.specs.Option.{option_map};
 ghost use Rattle.std.specs.List.{slice_get};
+ghost use Rattle.std.specs.Ordering.{is_lt};
 
 // A kind of price: closed, or a row of one length of whole numbers below the kind's ceiling.
-pub trait PriceKind: Copy {
+pub trait PriceKind: Copy + Ord {
     // the row length, the ceiling and the largest numbers of a link
     ghost kind: { Kind };
 
@@ -28,8 +29,12 @@ pub trait PriceKind: Copy {
     fn plus(self, other: Self) -> Self
         ensures { value result ≡ sum kind (value self) (value other) };
 
-    fn below(self, other: Self) -> bool
-        ensures { result ≡ less (value self) (value other) };
+    // Is this price the smaller one?
+    final fn below(self, other: Self) -> bool
+        ensures { result ≡ less (value self) (value other) }
+    {
+        self < other
+    }
 
     // May a link have this price? It may be closed, or have no number above the kind's largest.
     fn fits_link(self) -> bool
@@ -52,4 +57,7 @@ pub trait PriceKind: Copy {
     // The largest number of a link at a position, from 0.
     fn largest(position: usize) -> Option<u64>
         ensures { result ≡ slice_get kind.largest position };
+
+    // values are ordered as their prices are
+    ghost ordered: { (x y : Self) → is_lt (Self.Ord.cmp x y) ≡ less (value x) (value y) };
 }

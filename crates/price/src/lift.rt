@@ -1,15 +1,17 @@
 // Travel counted first by lifts of the spindle, then by time.
 ghost use Rattle.price.specs.Proper.{lift_laws, lift_proper};
 ghost use Rattle.price.specs.Kinds.{lift_kind, lift_value};
+ghost use Rattle.std.proofs.Common.{rules};
 
 use crate::kind::PriceKind;
 use crate::number::Number;
 use crate::time::LARGEST_MS;
 
-#[derive(Clone, Copy, PartialEq, Eq, Debug)]
+// Closed is above every open price, so it stands last: the derived order is that of prices. `Option` has it the other way round.
+#[derive(Clone, Copy, PartialEq, Eq, PartialOrd, Ord, Debug)]
 pub enum Lift {
-    Closed,
     Open { lifts: Number, ms: Number },
+    Closed,
 }
 
 // The most lifts that a link may take.
@@ -36,32 +38,13 @@ impl PriceKind for Lift {
     }
 
     fn plus(self, other: Lift) -> Lift {
-        let Lift::Open { lifts: a, ms: b } = self else {
+        let (Lift::Open { lifts: a, ms: b }, Lift::Open { lifts: c, ms: d }) = (self, other) else {
             return Lift::Closed;
         };
-        let Lift::Open { lifts: c, ms: d } = other else {
-            return Lift::Closed;
-        };
-        let Some(lifts) = a.plus(c) else {
-            return Lift::Closed;
-        };
-        match b.plus(d) {
-            Some(ms) => Lift::Open { lifts, ms },
-            None => Lift::Closed,
+        match (a.plus(c), b.plus(d)) {
+            (Some(lifts), Some(ms)) => Lift::Open { lifts, ms },
+            _ => Lift::Closed,
         }
-    }
-
-    fn below(self, other: Lift) -> bool {
-        let Lift::Open { lifts: a, ms: b } = self else {
-            return false;
-        };
-        let Lift::Open { lifts: c, ms: d } = other else {
-            return true;
-        };
-        if a.get() == c.get() {
-            return b.get() < d.get();
-        }
-        a.get() < c.get()
     }
 
     fn fits_link(self) -> bool {
@@ -106,4 +89,6 @@ impl PriceKind for Lift {
             _ => None,
         }
     }
+
+    ghost ordered = { Prim.search rules };
 }

@@ -3,7 +3,7 @@ ghost use Rattle.std.specs.Prelude.{◌≡◌, ◌+◌, ◌^◌, ◌<◌};
 ghost use Rattle.std.specs.Option.{SomeIff, option_map};
 
 // A whole number below the ceiling, 2^40. No value of this type reaches it, whatever memory it lies in.
-#[derive(Clone, Copy, PartialEq, Eq, Debug)]
+#[derive(Clone, Copy, PartialEq, Eq, PartialOrd, Ord, Debug)]
 pub struct Number {
     value: u64,
     ghost below: { value < 2 ^ 40 },

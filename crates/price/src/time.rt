@@ -1,14 +1,18 @@
 // Travel time.
 ghost use Rattle.price.specs.Proper.{time_laws, time_proper};
 ghost use Rattle.price.specs.Kinds.{time_kind, time_value};
+ghost use Rattle.std.proofs.Common.{rules};
 
 use crate::kind::PriceKind;
 use crate::number::Number;
 
-#[derive(Clone, Copy, PartialEq, Eq, Debug)]
+// Closed is above every open price, so it stands last: the derived order is that of prices. `Option` has it the other way round.
+// Time and lift prices are two types: as one type of N numbers they would lose the names of these, and each call of the
+// library with an array of N owes that N times 8 is below 2^63, which no public call may ask.
+#[derive(Clone, Copy, PartialEq, Eq, PartialOrd, Ord, Debug)]
 pub enum Time {
-    Closed,
     Open { ms: Number },
+    Closed,
 }
 
 // The most milliseconds that a link may take.
@@ -32,26 +36,10 @@ impl PriceKind for Time {
     }
 
     fn plus(self, other: Time) -> Time {
-        let Time::Open { ms: a } = self else {
+        let (Time::Open { ms: a }, Time::Open { ms: b }) = (self, other) else {
             return Time::Closed;
         };
-        let Time::Open { ms: b } = other else {
-            return Time::Closed;
-        };
-        match a.plus(b) {
-            Some(ms) => Time::Open { ms },
-            None => Time::Closed,
-        }
-    }
-
-    fn below(self, other: Time) -> bool {
-        let Time::Open { ms: a } = self else {
-            return false;
-        };
-        match other {
-            Time::Open { ms: b } => a.get() < b.get(),
-            Time::Closed => true,
-        }
+        a.plus(b).map_or(Time::Closed, |ms| Time::Open { ms })
     }
 
     fn fits_link(self) -> bool {
@@ -90,4 +78,6 @@ impl PriceKind for Time {
             _ => None,
         }
     }
+
+    ghost ordered = { Prim.search rules };
 }

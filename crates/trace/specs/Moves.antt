@@ -1,8 +1,8 @@
 -- Moves as the code has them, and the way back that they lead.
 use Rattle.std.specs.Prelude.{ℕ, cond, List, Some, None, Option}
 use Rattle.rows.specs.Rows.{Price, is_open}
-use Rattle.chart.specs.Meaning.{Meaning}
-use Rattle.lifelong.specs.Trace.{Move, move}
+use Rattle.chart.specs.Meaning.{Meaning, places}
+use Rattle.lifelong.specs.Trace.{Move, Traced, move, traced, walk}
 use Rattle.trace.specs.declared.step_back.Step.{Step}
 
 -- the move that a step back stands for, where v gives the price that a value stands for
@@ -17,3 +17,7 @@ led_to (Some a) = cond (is_open a.cost) (Some a.from) None
 -- the place before x on the way back
 abbrev pub before_on_the_way : Meaning → List Price → ℕ → Option ℕ
 before_on_the_way m gs x = led_to (move m gs x)
+
+-- the way back from the goal, of as many moves as places at most
+abbrev pub way_back : Meaning → List Price → Traced
+way_back m gs = traced (walk m gs (places m) m.goal)

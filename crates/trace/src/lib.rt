@@ -3,5 +3,6 @@
 
 mod step_back;
 mod tracing;
+mod trail;
 
 pub use tracing::{Untraced, trace};

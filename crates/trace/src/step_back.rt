@@ -2,107 +2,64 @@
 ghost use Rattle.std.specs.Prelude.{◌≡◌};
 ghost use Rattle.chart.specs.Meaning.{link_at};
 ghost use Rattle.bench.specs.Contents.{standings};
-ghost use Rattle.lifelong.specs.Trace.{move, move_over, nearer, nearest};
+ghost use Rattle.lifelong.specs.Trace.{move, move_over, nearest};
 ghost use Rattle.std.specs.Option.{option_map};
 ghost use Rattle.trace.specs.Moves.{before_on_the_way, move_of};
 
-use bench::Bench;
-use chart::Chart;
+use crate::trail::Trail;
+use chart::{Chart, End, LinksAt};
 use lpa_star::standing_of;
 use price::PriceKind;
 
-// A link taken backwards: its number, its from place, and the standing there plus its price.
-#[derive(Clone, Copy)]
+// A link taken backwards: the standing at its from place plus its price, that place, and its number. The nearer step is the
+// smaller one: the smaller cost, of equals the lower from place, of equals the lower link number.
+#[derive(Clone, Copy, PartialEq, Eq, PartialOrd, Ord)]
 pub struct Step<P> {
-    pub number: u16,
-    pub from: u16,
     pub cost: P,
+    pub from: u16,
+    pub number: u16,
 }
 
-// The smaller cost first, of equals the lower from place, of equals the lower link number.
-pub(crate) fn is_nearer<P: PriceKind>(a: Step<P>, b: Step<P>) -> bool
-    ensures { result ≡ nearer (move_of P.PriceKind.value a) (move_of P.PriceKind.value b) }
-{
-    if a.cost.below(b.cost) {
-        return true;
-    }
-    if b.cost.below(a.cost) {
-        return false;
-    }
-    if a.from < b.from {
-        return true;
-    }
-    if b.from < a.from {
-        return false;
-    }
-    a.number < b.number
-}
-
-// The nearer of the best so far and a new one.
-pub(crate) fn nearer_of<P: PriceKind>(
-    best: Option<Step<P>>,
-    new: Option<Step<P>>,
-) -> Option<Step<P>>
+// The nearer of the best so far and a new one. `Option`'s own order would put no step first.
+fn nearer_of<P: PriceKind>(best: Option<Step<P>>, new: Option<Step<P>>) -> Option<Step<P>>
     ensures { option_map (move_of P.PriceKind.value) result ≡ nearest (option_map (move_of P.PriceKind.value) best) (option_map (move_of P.PriceKind.value) new) }
 {
     match (best, new) {
-        (None, new) => new,
-        (Some(old), None) => Some(old),
-        (Some(old), Some(step)) => {
-            if is_nearer(step, old) {
-                return Some(step);
-            }
-            Some(old)
-        }
+        (Some(old), Some(step)) => Some(if step < old { step } else { old }),
+        (None, step) => step,
+        (old, None) => old,
     }
 }
 
-// The move over a link, none where the number names none.
-pub(crate) fn step_over<C: Chart>(
-    chart: &C,
-    bench: &Bench<C::Price>,
-    number: u16,
-) -> Option<Step<C::Price>>
-    ensures { option_map (move_of C.Price.PriceKind.value) result ≡ move_over (C.Chart.meaning chart.now).kind (standings C.Price.PriceKind.value bench.now) number (link_at (C.Chart.meaning chart.now) number) }
-{
-    match chart.link(number) {
-        None => None,
-        Some(link) => Some(Step {
-            number,
+impl<C: Chart> Trail<'_, '_, '_, C> {
+    // The move over a link, none where the number names none.
+    fn step_over(&self, number: u16) -> Option<Step<C::Price>>
+        ensures { option_map (move_of C.Price.PriceKind.value) result ≡ move_over (C.Chart.meaning self.now.chart.now).kind (standings C.Price.PriceKind.value self.now.bench.now) number (link_at (C.Chart.meaning self.now.chart.now) number) }
+    {
+        let link = self.chart.link(number)?;
+        Some(Step {
+            cost: standing_of(self.bench, link.from).plus(link.price),
             from: link.from,
-            cost: standing_of(bench, link.from).plus(link.price),
-        }),
+            number,
+        })
     }
-}
 
-// The nearest move over the links into a place.
-pub(crate) fn best_step<C: Chart>(
-    chart: &C,
-    bench: &Bench<C::Price>,
-    place: u16,
-) -> Option<Step<C::Price>>
-    ensures { option_map (move_of C.Price.PriceKind.value) result ≡ move (C.Chart.meaning chart.now) (standings C.Price.PriceKind.value bench.now) place }
-{
-    let mut best: Option<Step<C::Price>> = None;
-    let mut from: u16 = 0;
-    while let Some(number) = chart.next_into(place, from) {
-        best = nearer_of(best, step_over(chart, bench, number));
-        from = number + 1;
-    }
-    best
-}
-
-// The place before this one on the way back; none where no open move leads on.
-pub(crate) fn place_before<C: Chart>(chart: &C, bench: &Bench<C::Price>, place: u16) -> Option<u16>
-    ensures { result ≡ before_on_the_way (C.Chart.meaning chart.now) (standings C.Price.PriceKind.value bench.now) place }
-{
-    match best_step(chart, bench, place) {
-        None => None,
-        Some(step) => {
-            if step.cost.below(C::Price::closed()) {
-                return Some(step.from);
-            }
-            None
+    // The nearest move over the links into a place.
+    fn best_step(&self, place: u16) -> Option<Step<C::Price>>
+        ensures { option_map (move_of C.Price.PriceKind.value) result ≡ move (C.Chart.meaning self.now.chart.now) (standings C.Price.PriceKind.value self.now.bench.now) place }
+    {
+        let mut best = None;
+        for number in LinksAt::new(self.chart, End::To, place) {
+            best = nearer_of(best, self.step_over(number));
         }
+        best
+    }
+
+    // The place before this one on the way back; none where no open move leads on.
+    pub(crate) fn place_before(&self, place: u16) -> Option<u16>
+        ensures { result ≡ before_on_the_way (C.Chart.meaning self.now.chart.now) (standings C.Price.PriceKind.value self.now.bench.now) place }
+    {
+        let step = self.best_step(place)?;
+        (step.cost < C::Price::closed()).then_some(step.from)
     }
 }

@@ -1,12 +1,12 @@
 // The walk back from the goal, counted first and then written.
 ghost use Rattle.std.specs.Prelude.{◌≡◌, ◌≤◌, length, Some};
-ghost use Rattle.chart.specs.Meaning.{places};
 ghost use Rattle.bench.specs.Contents.{standings};
-ghost use Rattle.lifelong.specs.Trace.{trace as defined_trace, traced, walk};
+ghost use Rattle.lifelong.specs.Trace.{trace as defined_trace};
 ghost use Rattle.trace.specs.Answers.{answer, written};
 ghost use Rattle.trace.specs.Lengths.{route_length};
+ghost use Rattle.trace.specs.Moves.{way_back};
 
-use crate::step_back;
+use crate::trail::Trail;
 use bench::Bench;
 use chart::Chart;
 use lpa_star::standing_of;
@@ -23,50 +23,37 @@ pub enum Untraced {
     ShortBuffer(usize),
 }
 
-// How many places the way back from the goal has, if it reaches the start within as many moves as places.
-pub(crate) fn walk_length<C: Chart>(chart: &C, bench: &Bench<C::Price>) -> Option<usize>
-    ensures { result ≡ route_length (traced (walk (C.Chart.meaning chart.now) (standings C.Price.PriceKind.value bench.now) (places (C.Chart.meaning chart.now)) (C.Chart.meaning chart.now).goal)) }
-{
-    let start = chart.start();
-    let limit = chart.places() as usize;
-    let mut place = chart.goal();
-    let mut moves: usize = 0;
-    while place != start {
-        if moves >= limit {
-            return None;
+impl<C: Chart> Trail<'_, '_, '_, C> {
+    // How many places the way back from the goal has, if it reaches the start within as many moves as places.
+    fn length(&self) -> Option<usize>
+        ensures { result ≡ route_length (way_back (C.Chart.meaning self.now.chart.now) (standings C.Price.PriceKind.value self.now.bench.now)) }
+    {
+        let start = self.chart.start();
+        let mut place = self.chart.goal();
+        for moves in 0..=usize::from(self.chart.places()) {
+            if place == start {
+                return Some(moves + 1);
+            }
+            place = self.place_before(place)?;
         }
-        match step_back::place_before(chart, bench, place) {
-            None => return None,
-            Some(before) => {
-                place = before;
-                moves += 1;
+        None
+    }
+
+    // Writes the way back from the goal, the start first, over the first `count` numbers.
+    fn write(&self, out: &mut [u16], count: usize)
+        requires count { (route_length (way_back (C.Chart.meaning self.now.chart.now) (standings C.Price.PriceKind.value self.now.bench.now)) ≡ Some count) × (count ≤ length out.old) }
+        ensures { out.new ≡ written (way_back (C.Chart.meaning self.now.chart.now) (standings C.Price.PriceKind.value self.now.bench.now)) out.old }
+    {
+        let mut place = self.chart.goal();
+        for left in (1..count).rev() {
+            out[left] = place;
+            match self.place_before(place) {
+                None => return,
+                Some(before) => place = before,
             }
         }
+        out[0] = place;
     }
-    Some(moves + 1)
-}
-
-// Writes the way back from the goal, the start first, over the first `count` numbers.
-pub(crate) fn write_walk<C: Chart>(
-    chart: &C,
-    bench: &Bench<C::Price>,
-    out: &mut [u16],
-    count: usize,
-)
-    requires count { (route_length (traced (walk (C.Chart.meaning chart.now) (standings C.Price.PriceKind.value bench.now) (places (C.Chart.meaning chart.now)) (C.Chart.meaning chart.now).goal)) ≡ Some count) × (count ≤ length out.old) }
-    ensures { out.new ≡ written (traced (walk (C.Chart.meaning chart.now) (standings C.Price.PriceKind.value bench.now) (places (C.Chart.meaning chart.now)) (C.Chart.meaning chart.now).goal)) out.old }
-{
-    let mut place = chart.goal();
-    let mut left = count;
-    while left > 1 {
-        left -= 1;
-        out[left] = place;
-        match step_back::place_before(chart, bench, place) {
-            None => return,
-            Some(before) => place = before,
-        }
-    }
-    out[0] = place;
 }
 
 // Writes the places of the route by standings, start first, and answers how many. Where it is refused the buffer stays as
@@ -79,15 +66,14 @@ pub fn trace<C: Chart>(
     ensures answer { result ≡ answer (defined_trace (C.Chart.meaning chart.now) (standings C.Price.PriceKind.value bench.now)) (length out.old) }
     ensures out { out.new ≡ written (defined_trace (C.Chart.meaning chart.now) (standings C.Price.PriceKind.value bench.now)) out.old }
 {
-    if !standing_of(bench, chart.goal()).below(C::Price::closed()) {
+    if standing_of(bench, chart.goal()) >= C::Price::closed() {
         return Err(Untraced::GoalClosed);
     }
-    let Some(count) = walk_length(chart, bench) else {
-        return Err(Untraced::StartMissed);
-    };
+    let trail = Trail { chart, bench };
+    let count = trail.length().ok_or(Untraced::StartMissed)?;
     if count > out.len() {
         return Err(Untraced::ShortBuffer(count));
     }
-    write_walk(chart, bench, out, count);
+    trail.write(out, count);
     Ok(count)
 }

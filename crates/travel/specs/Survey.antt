@@ -1,5 +1,5 @@
 -- What the program says of a file.
-use Rattle.std.specs.Prelude.{◌≡◌, ℕ, ◌+◌, cond, List, [], ◌∷◌, length, Some, None, Option, nat_le}
+use Rattle.std.specs.Prelude.{◌≡◌, ℕ, List, length, Some, None, Option, nat_le, count_by}
 use Rattle.rows.specs.Rows.{is_open}
 use Rattle.chart.specs.Refusals.{Refusal, told}
 use Rattle.chart_file.specs.Checks.{or_else, records_refusal, refuse, require, trailer_refusal}
@@ -16,8 +16,7 @@ input_refusal file =
     or_else (require (nat_le (length file) 8192) (refuse 2 None)) (or_else (trailer_refusal file) (records_refusal file))
 
 abbrev pub open_count : List LinkRecord → ℕ
-open_count [] = 0
-open_count (l ∷ ls) = cond (is_open (price_of l)) 1 0 + open_count ls
+open_count ls = count_by (λ l. is_open (price_of l)) ls
 
 -- what is on the chart
 abbrev pub report_of : List ℕ → Report

@@ -2,19 +2,24 @@
 ghost use Rattle.std.specs.Prelude.{◌≡◌};
 ghost use Rattle.travel.specs.declared.fault.TravelFault.TheVariants.{Chart, Memory};
 
+use crate::survey::LONGEST_FILE;
 use chart::ChartFault;
 use std::alloc::AllocError;
+use thiserror::Error;
 
-#[derive(Clone, Copy)]
+#[derive(Clone, Copy, PartialEq, Eq, Debug, Error)]
 pub enum TravelFault {
     // the chart file is refused
+    #[error("{0}")]
     Chart(ChartFault),
-    // the file is longer than the program reads: refusal 2
+    // refused as outside the limits
+    #[error("the file is longer than {LONGEST_FILE} bytes")]
     TooLong,
-    // there is no memory to read it into
+    #[error("there is not enough memory to read the chart")]
     Memory,
 }
 
+// By hand, and not by `#[from]`: the contract of `survey` names the fault that its `?` makes.
 impl From<ChartFault> for TravelFault {
     ghost from_gives = { λ f r. r ≡ Chart f };
 

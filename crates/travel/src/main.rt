@@ -7,7 +7,6 @@ mod survey;
 #[cfg(test)]
 mod tests;
 
-use anyhow::anyhow;
 use chart::{Cause, ChartFault};
 use chart_file::Trailer;
 use fault::TravelFault;
@@ -58,10 +57,11 @@ fn tell(rt: &HostRuntime, file: &[u8], fault: TravelFault) -> anyhow::Result<()>
             explain(rt, file, fault)?;
         }
         TravelFault::TooLong => {
-            println!(rt; "refused 2")?;
-            eprintln!(rt; "travel: the file is longer than {LONGEST_FILE} bytes")?;
+            let number = Cause::OutsideLimits.number();
+            println!(rt; "refused {number}")?;
+            eprintln!(rt; "travel: {fault}")?;
         }
-        TravelFault::Memory => return Err(anyhow!("there is not enough memory to read the chart")),
+        TravelFault::Memory => return Err(fault.into()),
     }
     Ok(())
 }

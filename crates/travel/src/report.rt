@@ -10,6 +10,7 @@ pub struct Report {
     pub goal: u16,
 }
 
+// One line with five numbers, of a struct that is no error: nothing derives it.
 impl fmt::Display for Report {
     fn fmt<W: fmt::Write>(&self, f: &mut fmt::Formatter<W>) -> fmt::Result {
         let Report {
@@ -18,7 +19,7 @@ impl fmt::Display for Report {
             open_links,
             start,
             goal,
-        } = *self;
+        } = self;
         write!(
             f,
             "places {places} links {links} open {open_links} start {start} goal {goal}"

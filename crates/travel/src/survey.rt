@@ -2,15 +2,12 @@
 ghost use Rattle.std.specs.Prelude.{◌≡◌, length, IfOk, None, MatchResult};
 ghost use Rattle.chart.specs.Refusals.{refused};
 ghost use Rattle.chart_file.specs.Checks.{file_refusal};
-ghost use Rattle.chart_file.specs.Records.{price_of};
-ghost use Rattle.rows.specs.Rows.{is_open};
 ghost use Rattle.travel.specs.Survey.{Says, input_refusal, open_count, report_of};
 
 use crate::fault::TravelFault;
 use crate::report::Report;
 use chart::ChartFault;
 use chart_file::{LinkRecord, PlaceRecord, Trailer, read_chart};
-use price::Lift;
 use std::alloc::Global;
 
 // The longest file that the program reads, in bytes, and the most records that such a file can have.
@@ -20,35 +17,11 @@ const PLACES: usize = 1024;
 
 const LINKS: usize = 512;
 
-const NO_LINK: LinkRecord = LinkRecord {
-    from: 0,
-    to: 0,
-    floor_lifts: 0,
-    price_lifts: 0,
-    floor_ms: 0,
-    price_ms: 0,
-};
-
-fn is_open(link: LinkRecord) -> bool
-    ensures { result ≡ is_open (price_of link) }
-{
-    match link.price() {
-        Lift::Open { .. } => true,
-        Lift::Closed => false,
-    }
-}
-
 // How many links are open.
 fn count_open(links: &[LinkRecord]) -> usize
     ensures { result ≡ open_count links.now }
 {
-    let mut count = 0;
-    for link in links {
-        if is_open(*link) {
-            count += 1;
-        }
-    }
-    count
+    links.iter().filter(|link| link.is_open()).count()
 }
 
 // What is on a chart file, read into lent records.
@@ -61,13 +34,13 @@ fn survey_into(
     ensures report { IfOk result (λ s. s ≡ report_of file.now) }
 {
     let trailer = read_chart(file, places, links)?;
-    let open_links = count_open(&links[0..usize::from(trailer.links)]);
+    let open_links = count_open(&links[..usize::from(trailer.links)]);
     let Trailer {
         start,
         goal,
         places,
         links,
-        back: _,
+        ..
     } = trailer;
     Ok(Report {
         places,
@@ -85,8 +58,8 @@ pub fn survey(heap: Global, file: &[u8]) -> Result<Report, TravelFault>
     if file.len() > LONGEST_FILE {
         return Err(TravelFault::TooLong);
     }
-    let mut places = vec![in heap; PlaceRecord { lifts: 0, ms: 0 }; PLACES]?;
-    let mut links = vec![in heap; NO_LINK; LINKS]?;
+    let mut places = vec![in heap; PlaceRecord::default(); PLACES]?;
+    let mut links = vec![in heap; LinkRecord::default(); LINKS]?;
     let report = survey_into(file, &mut places, &mut links)?;
     Ok(report)
 }

@@ -1,15 +1,10 @@
-use Rattle.std.proofs.Common.{Some, None, ◌∙◌}
+use Rattle.std.proofs.Common.{ap, ◌∙◌}
 use Rattle.rows.specs.Rows.{closed}
 use Rattle.bench.specs.Contents.{standings}
-use Rattle.std.specs.Option.{option_map}
-use Rattle.lpa_star.proofs.Columns.{read}
+use Rattle.lpa_star.proofs.Columns.{read_or}
 use Rattle.lpa_star.proofs.look.standing_of.Goals as goal
 
-pub returns-in-Some : goal.returns-in-Some
-returns-in-Some g c =
-    let v = g.P.PriceKind.value in read (standings v c.args.bench.now) c.args.place closed (option_map v (Some c.in-Some.standing)) c.in-Some.ensures
-
-pub returns-in-None : goal.returns-in-None
-returns-in-None g c =
+pub returns : goal.returns
+returns g c =
     let v = g.P.PriceKind.value in
-    c.closed.ensures ∙ read (standings v c.args.bench.now) c.args.place closed (option_map v None) c.in-None.ensures
+    ap v c.unwrap_or.ensures ∙ read_or v c.standing.result c.closed.result (standings v c.args.bench.now) c.args.place closed c.standing.ensures c.closed.ensures

@@ -3,10 +3,6 @@ use Rattle.std.proofs.lemmas.Result.{err_from_is_err_and}
 use Rattle.travel.proofs.Roomy.{roomy}
 use Rattle.travel.proofs.survey.survey.Goals as goal
 
-pub returns-in_err-links : goal.returns-in_err-links
-returns-in_err-links c =
-    let p = err_from_is_err_and c.from_residual-in_err-links.result c.from_residual-in_err-links.ensures.1 in rw (p.1, p.2) tt
-
 pub returns-in_err-report : goal.returns-in_err-report
 returns-in_err-report c =
     let same = roomy c.args.file.now _ _ (c.deref_mut.ensures.len ∙ c.in_ok-places.ensures.len)

@@ -1,12 +1,13 @@
-use Rattle.std.proofs.Common.{◌≡◌, ℕ, ◌<◌, ◌≤◌, length, take, set, None, sym, refl, ap, ◌∙◌, subst, arith}
+use Rattle.std.proofs.Common.{◌≡◌, ℕ, ◌<◌, ◌≤◌, length, take, set, None, sym, ap, ◌∙◌, subst, arith}
 use lib.Seq.{take-set-lt}
 use Rattle.rows.specs.Rows.{Price}
 use Rattle.chart.specs.Refusals.{refusal}
-use Rattle.std.proofs.lemmas.List.{length-set, length-take-le}
+use Rattle.std.proofs.lemmas.List.{length-set}
 use Rattle.price.specs.Kinds.{time_value}
 use Rattle.lattice_meaning.specs.Prices.{Counted, Priced, Unlinked, lattice, number_of}
 use Rattle.lattice_meaning.proofs.Accepted.{Repriced, accepted, repriced}
 use Rattle.lattice_meaning.proofs.Limits.{limits}
+use Rattle.lattice.proofs.InUse.{numbers_long}
 use Rattle.lattice.specs.Drawn.{chart_of, numbers_of}
 use Rattle.lattice.specs.Layouts.{shape}
 use Rattle.lattice.specs.declared.lattice.Lattice.{Lattice}
@@ -14,7 +15,7 @@ use Rattle.lattice.proofs.lattice.Lattice.reprice.Goals as goal
 
 module _ (l : Lattice) (n : ℕ) (p : Price) (e : refusal (chart_of l) n p ≡ None) where
   in_table : n < l.link_count
-  in_table = omega (arith, (accepted (shape l.layout) (numbers_of l) n p e).in_table, length-take-le l.link_count l.prices.now l.room)
+  in_table = omega (arith, (accepted (shape l.layout) (numbers_of l) n p e).in_table, numbers_long l)
 
   after : Repriced (shape l.layout) (numbers_of l) n p
   after = repriced (shape l.layout) (numbers_of l) n p (limits (shape l.layout) l.within).step l.counted l.priced l.unlinked e
@@ -44,12 +45,9 @@ invariant_of-self c =
       unlinked = subst (Unlinked s) same rules.unlinked;
     }
 
-pub returns : goal.returns
-returns c =
+pub returns-clause-after : goal.returns-clause-after
+returns-clause-after c =
     let l = c.args.self.now in
     let p = time_value c.args.price in
-    record {
-      after = sym (ap (lattice (shape l.layout)) (written l c.args.link p c.requires c.from.result c.number_of.result c.from.ensures c.number_of.ensures))
-          ∙ (after l c.args.link p c.requires).means;
-      lender = refl;
-    }
+    sym (ap (lattice (shape l.layout)) (written l c.args.link p c.requires c.from.result c.number_of.result c.from.ensures c.number_of.ensures))
+    ∙ (after l c.args.link p c.requires).means

@@ -1,40 +1,19 @@
 use Rattle.std.proofs.Common.{ℕ, ◌<◌, get_or, refl, arith}
-use Rattle.link_chart.proofs.Filled.{link_room_after, links_after, means_drawn, place_room_after, places_after, rules_after}
+use Rattle.link_chart.proofs.Filled.{all_filled}
 use Rattle.link_chart.proofs.over.LinkChart.fill.Goals as goal
 
 pub invariant_of-self : goal.invariant_of-self
 invariant_of-self c =
     let file = c.args.file.now in
     let byte : (i : ℕ) → get_or file i 0 < 256 = λ i. omega (arith, c.type_inv.file i) in
-    let t = c.args.trailer in
-    let ps = c.args.self.now.places.now in
-    let ls = c.args.self.now.links.now in
-    let given = c.requires in
-    let R = rules_after file byte t ps _ ls _ given.passed given.accepted c.copy_places.ensures c.copy_links.ensures in
-    record {
-      place_room = place_room_after file byte t ps _ ls _ given.passed given.accepted c.copy_places.ensures c.copy_links.ensures;
-      link_room = link_room_after file byte t ps _ ls _ given.passed given.accepted c.copy_places.ensures c.copy_links.ensures;
-      places_few = R.places_few;
-      start_in = R.start_in;
-      goal_in = R.goal_in;
-      links_few = R.links_few;
-      small = R.small;
-      ruled = R.ruled;
-      goal_zero = R.goal_zero;
-      estimated = R.estimates;
-    }
+    let all = all_filled file byte c.args.trailer c.args.self.now.places.now _ c.args.self.now.links.now _ c.requires.passed c.requires.accepted
+    c.copy_records.ensures c.copy_records-2.ensures in
+    record { place_room = all.place_room; link_room = all.link_room; rules = all.rules }
 
 pub returns : goal.returns
 returns c =
     let file = c.args.file.now in
     let byte : (i : ℕ) → get_or file i 0 < 256 = λ i. omega (arith, c.type_inv.file i) in
-    let t = c.args.trailer in
-    let ps = c.args.self.now.places.now in
-    let ls = c.args.self.now.links.now in
-    let given = c.requires in
-    record {
-      after = means_drawn file byte t ps _ ls _ given.passed given.accepted c.copy_places.ensures c.copy_links.ensures;
-      place_memory = places_after file byte t ps _ ls _ given.passed given.accepted c.copy_places.ensures c.copy_links.ensures;
-      link_memory = links_after file byte t ps _ ls _ given.passed given.accepted c.copy_places.ensures c.copy_links.ensures;
-      lender = (refl, refl);
-    }
+    let all = all_filled file byte c.args.trailer c.args.self.now.places.now _ c.args.self.now.links.now _ c.requires.passed c.requires.accepted
+    c.copy_records.ensures c.copy_records-2.ensures in
+    record { after = all.drawn; place_memory = all.place_memory; link_memory = all.link_memory; lender = (refl, refl) }

@@ -22,7 +22,7 @@ returns g c =
     record {
       turned = λ k t.
           let u = price_turn k n x in
-          let e : None ≡ precheck s u = c.in_default.ensures ∙ ap (λ (ok : Bool). with_bench ok s) t in
+          let e : None ≡ precheck s u = c.in_ok-check.ensures ∙ ap (λ (ok : Bool). with_bench ok s) t in
           accept (precheck s u) s _ _ _ e (accept (option_map by_chart (refusal m n x)) s _ _ _ (ap (option_map by_chart) h.answer) (record {
             answer = refl;
             number = refl;

@@ -19,7 +19,7 @@ returns g c =
     let after = c.trace.new.out in
     let h = c.in_ok-places.ensures in
     let e : (k : ℕ) → c.args.in_turn ≡ in_turn s (trace_turn k (length out)) → None ≡ precheck s (trace_turn k (length out)) =
-    λ k i. c.in_default.ensures ∙ ap (λ (ok : Bool). with_bench ok s) i in
+    λ k i. c.in_ok-check.ensures ∙ ap (λ (ok : Bool). with_bench ok s) i in
     let r = route_shown (defined_trace s.chart s.bench.standings) out after n h.answer h.out in
     let z : (k : ℕ) → c.args.in_turn ≡ in_turn s (trace_turn k (length out)) → Turned s (trace_turn k (length out)) (shows n (take n after)) s =
     λ k i. accept (precheck s (trace_turn k (length out))) s _ s _ (e k i) (r.is_shown, refl) in
@@ -33,8 +33,8 @@ returns-in_err-places g c =
     let after = c.trace.new.out in
     let h = c.in_err-places.ensures in
     let e : (k : ℕ) → c.args.in_turn ≡ in_turn s (trace_turn k (length out)) → None ≡ precheck s (trace_turn k (length out)) =
-    λ k i. c.in_default.ensures ∙ ap (λ (ok : Bool). with_bench ok s) i in
-    let p = err_from_is_err_and c.from_residual.result c.from_residual.ensures.1 in
+    λ k i. c.in_ok-check.ensures ∙ ap (λ (ok : Bool). with_bench ok s) i in
+    let p = err_from_is_err_and c.from_residual-in_err-places.result c.from_residual-in_err-places.ensures.1 in
     let f = c.in_err-places.field-0.0 in
     let a = refused (told (untraced f)) in
     let r = route_refused (defined_trace s.chart s.bench.standings) out after f h.answer h.out in

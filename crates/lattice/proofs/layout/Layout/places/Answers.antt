@@ -1,7 +1,0 @@
-use Rattle.std.proofs.Common.{sym, refl}
-use Rattle.lattice_meaning.proofs.Table.{estimates_long}
-use Rattle.lattice.specs.Layouts.{shape}
-use Rattle.lattice.proofs.layout.Layout.places.Goals as goal
-
-pub returns : goal.returns
-returns c = record { count = refl; table = sym (estimates_long (shape c.args.self)) }

@@ -1,6 +1,0 @@
-use Rattle.std.proofs.Common.{sym, ◌∙◌}
-use Rattle.layer_meaning.proofs.Returning.{places_returned}
-use Rattle.layers.proofs.back.ReturnChart.places.Goals as goal
-
-pub returns : goal.returns
-returns g c = c.places.ensures ∙ sym (places_returned (g.C.Chart.meaning c.args.self.now.chart))
