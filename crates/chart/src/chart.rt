@@ -113,7 +113,7 @@ pub fn check_link_price<P: PriceKind>(
             ..ChartFault::at_link(Cause::Held, number)
         });
     }
-    if price < link.floor || !price.fits_link() {
+    if price.below(link.floor) || !price.fits_link() {
         return Err(ChartFault::at_link(Cause::BadPrice, number));
     }
     Ok(())

@@ -1,18 +1,26 @@
 // How the records of each type lie in a chart file.
-ghost use Rattle.std.specs.Prelude.{◌≡◌, ℕ, ◌+◌, ◌*◌, ◌<◌, ◌≤◌, length, refl, slice_index};
+ghost use Rattle.std.specs.Prelude.{◌≡◌, ℕ, ◌+◌, ◌*◌, ◌≤◌, length, refl};
 ghost use Rattle.std.proofs.Common.{arith};
 ghost use Rattle.chart_file.specs.declared.trailer.Trailer.{Trailer};
-ghost use Rattle.chart_file.specs.File.{Layout, link_layout, place_layout};
+ghost use Rattle.chart_file.specs.File.{Layout, four_bytes, link_layout, place_layout, two_bytes};
 
 use crate::records::{LinkRecord, PlaceRecord};
 use crate::trailer::Trailer;
 
-// The bytes of a file at an offset that its caller knows to be inside.
-fn bytes_at<const N: usize>(file: &[u8], at: usize) -> [u8; N]
-    requires { at + N ≤ length file.now }
-    ensures { (i : ℕ) → i < N → slice_index result i ≡ slice_index file.now (at + i) }
+// Numbers of a chart file, at an offset that its caller knows to be inside: byte by byte, since a chunk of a slice is
+// tested for its length at each number, which doubled the time of a check.
+fn u16_at(file: &[u8], at: usize) -> u16
+    requires { at + 2 ≤ length file.now }
+    ensures { result ≡ two_bytes file.now at }
 {
-    *file[at..].first_chunk().unwrap()
+    u16::from_le_bytes([file[at], file[at + 1]])
+}
+
+fn u32_at(file: &[u8], at: usize) -> u32
+    requires { at + 4 ≤ length file.now }
+    ensures { result ≡ four_bytes file.now at }
+{
+    u32::from_le_bytes([file[at], file[at + 1], file[at + 2], file[at + 3]])
 }
 
 // A record of a chart file: each type has a table of its own, one record after another. The trait is not exported: there
@@ -61,8 +69,8 @@ impl Record for PlaceRecord {
 
     fn read(file: &[u8], at: usize) -> PlaceRecord {
         PlaceRecord {
-            lifts: u32::from_le_bytes(bytes_at(file, at)),
-            ms: u32::from_le_bytes(bytes_at(file, at + 4)),
+            lifts: u32_at(file, at),
+            ms: u32_at(file, at + 4),
         }
     }
 
@@ -88,12 +96,12 @@ impl Record for LinkRecord {
 
     fn read(file: &[u8], at: usize) -> LinkRecord {
         LinkRecord {
-            from: u16::from_le_bytes(bytes_at(file, at)),
-            to: u16::from_le_bytes(bytes_at(file, at + 2)),
-            floor_lifts: u16::from_le_bytes(bytes_at(file, at + 4)),
-            price_lifts: u16::from_le_bytes(bytes_at(file, at + 6)),
-            floor_ms: u32::from_le_bytes(bytes_at(file, at + 8)),
-            price_ms: u32::from_le_bytes(bytes_at(file, at + 12)),
+            from: u16_at(file, at),
+            to: u16_at(file, at + 2),
+            floor_lifts: u16_at(file, at + 4),
+            price_lifts: u16_at(file, at + 6),
+            floor_ms: u32_at(file, at + 8),
+            price_ms: u32_at(file, at + 12),
         }
     }
 

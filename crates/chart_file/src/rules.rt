@@ -72,8 +72,8 @@ impl LinkRecord {
         let floor = self.floor();
         let price = self.price();
         let ends = self.from < places && self.to < places && self.from != self.to;
-        let floored = Lift::zero() < floor && floor.fits_link();
-        let priced = price.fits_link() && price >= floor;
+        let floored = Lift::zero().below(floor) && floor.fits_link();
+        let priced = price.fits_link() && !price.below(floor);
         ends && floored && priced
     }
 
@@ -81,6 +81,6 @@ impl LinkRecord {
     pub fn keeps_estimate(self, from: PlaceRecord, to: PlaceRecord) -> bool
         ensures { result ≡ keeps_estimate (estimate_of from) (estimate_of to) self }
     {
-        self.floor().plus(to.estimate()) >= from.estimate()
+        !self.floor().plus(to.estimate()).below(from.estimate())
     }
 }

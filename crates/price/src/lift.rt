@@ -47,6 +47,19 @@ impl PriceKind for Lift {
         }
     }
 
+    fn below(self, other: Lift) -> bool {
+        let Lift::Open { lifts: a, ms: b } = self else {
+            return false;
+        };
+        let Lift::Open { lifts: c, ms: d } = other else {
+            return true;
+        };
+        if a.get() == c.get() {
+            return b.get() < d.get();
+        }
+        a.get() < c.get()
+    }
+
     fn fits_link(self) -> bool {
         match self {
             Lift::Open { lifts, ms } => lifts.get() <= LARGEST_LIFTS && ms.get() <= LARGEST_MS,

@@ -39,7 +39,20 @@ impl PriceKind for Time {
         let (Time::Open { ms: a }, Time::Open { ms: b }) = (self, other) else {
             return Time::Closed;
         };
-        a.plus(b).map_or(Time::Closed, |ms| Time::Open { ms })
+        match a.plus(b) {
+            Some(ms) => Time::Open { ms },
+            None => Time::Closed,
+        }
+    }
+
+    fn below(self, other: Time) -> bool {
+        let Time::Open { ms: a } = self else {
+            return false;
+        };
+        match other {
+            Time::Open { ms: b } => a.get() < b.get(),
+            Time::Closed => true,
+        }
     }
 
     fn fits_link(self) -> bool {
