@@ -1,2 +1,3 @@
 pub mod Layouts
 pub mod Drawn
+pub mod Lowest

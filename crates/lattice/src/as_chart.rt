@@ -41,6 +41,10 @@ impl<'a> Chart for Lattice<'a> {
         self.grid().estimate(place)
     }
 
+    fn nth_link(&self, end: End, place: u16, n: u16) -> Option<u16> {
+        self.nth_at(end, place, n)
+    }
+
     fn next_link(&self, end: End, place: u16, from: u16) -> Option<u16> {
         self.next_at(end, place, from)
     }

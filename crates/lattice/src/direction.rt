@@ -16,18 +16,16 @@ pub(crate) enum Direction {
 pub(crate) const LINKS_PER_PLACE: u16 = 4;
 
 impl Direction {
-    pub(crate) const ALL: [Direction; 4] = [
-        Direction::Up,
-        Direction::Right,
-        Direction::Down,
-        Direction::Left,
-    ];
-
     // The direction of a link number.
     pub(crate) fn of_link(link: u16) -> Direction
         ensures { number result ≡ link % links_per_place }
     {
-        Direction::ALL[usize::from(link % LINKS_PER_PLACE)]
+        match link % LINKS_PER_PLACE {
+            0 => Direction::Up,
+            1 => Direction::Right,
+            2 => Direction::Down,
+            _ => Direction::Left,
+        }
     }
 
     pub(crate) fn number(self) -> u16

@@ -1,17 +1,15 @@
-use Rattle.std.proofs.Common.{rules, tests, leb, sym, ◌∙◌}
-use Rattle.std.proofs.lemmas.Iterator.{YieldsList-from_slice}
-use Rattle.std.proofs.lemmas.Iterator.Adapters.{option_map_id}
-use Rattle.std.proofs.lemmas.Iterator.Consumers.{YieldsList-at, YieldsList-from_filter, YieldsList-from_filter_map, min_from_yields_List}
+use Rattle.std.proofs.Common.{◌∙◌}
 use Rattle.lattice_meaning.specs.Numbers.{number_at}
-use Rattle.lattice.proofs.Ends.{all, next_least}
+use Rattle.lattice.proofs.Ends.{lowest_of_four, next_least}
 use Rattle.lattice.specs.Layouts.{number, shape}
+use Rattle.lattice.specs.Lowest.{lower_of}
 use Rattle.lattice.proofs.lattice.Lattice.next_at.Goals as goal
 
 pub returns : goal.returns
 returns c =
-    next_least c.args.end c.args.self.now c.args.place c.args.from c.min.result (sym (option_map_id c.min.result)
-    ∙ min_from_yields_List c.filter.result c.min.result c.min.ensures.ran
-    (YieldsList-from_filter _ (leb c.args.from) (YieldsList-at c.filter.ensures.source
-    (YieldsList-from_filter_map _ (λ d. number_at c.args.end (shape c.args.self.now.layout) c.args.self.now.link_count c.args.place (number d))
-    (YieldsList-from_slice all (cc)) c.filter_map.ensures.closure (λ x r q k. search (rules, tests))))
-    c.filter.ensures.closure (λ x b q k. search (rules, tests))))
+    let above = c.lower_of.ensures ∙ (λ i. lower_of (c.link_past-up.ensures i) (c.link_past-right.ensures i)) in
+    let beside = c.lower_of-2.ensures ∙ (λ i. lower_of (above i) (c.link_past-down.ensures i)) in
+    next_least c.args.end c.args.self.now c.args.place c.args.from c.lower_of-3.result
+    (c.lower_of-3.ensures
+    ∙ (λ i. lower_of (beside i) (c.link_past-left.ensures i))
+    ∙ lowest_of_four c.args.from (λ d. number_at c.args.end (shape c.args.self.now.layout) c.args.self.now.link_count c.args.place (number d)))
