@@ -5,7 +5,7 @@ use Rattle.std.proofs.lemmas.Bool.{cond-true, cond-false, true≢false}
 use Rattle.rows.specs.Rows.{Kind, Price, closed}
 use Rattle.chart.specs.Lawful.{Consistent, LinkLaw}
 use Rattle.chart.specs.Meaning.{Link, Meaning, link_at, places, priced, with_price}
-use Rattle.chart.specs.Questions.{Next, leads_at, leads_into, leads_out}
+use Rattle.chart.specs.Questions.{Next, leads_at, leads_into, leads_out, numbers_at}
 use Rattle.chart.specs.declared.end.End.{End}
 use Rattle.chart.specs.declared.end.End.TheVariants.{From, To}
 use Rattle.chart.specs.Refusals.{Refusal, refusal, refusal_at, unless}
@@ -65,6 +65,10 @@ into_guarded ps m p = numbers_mapped (guarded_link ps (above m.height)) refl (le
 
 pub out_guarded : GuardOut
 out_guarded ps m p = numbers_mapped (guarded_link ps (above m.height)) refl (leads_out p) (leads_out p) (out_same ps (above m.height) p) 0 m.links
+
+pub numbers_guarded : (ps : List ℕ) (m : Meaning) (e : End) (p : ℕ) → numbers_at e (guarded ps m) p ≡ numbers_at e m p
+numbers_guarded ps m From p = out_guarded ps m p
+numbers_guarded ps m To p = into_guarded ps m p
 
 -- the link of a number, where it is held, and where it is free
 pub held_there : (ps : List ℕ) (m : Meaning) (n : ℕ) → touched ps (link_at m n) ≡ true → link_at (guarded ps m) n ≡ held_at (above m.height) (link_at m n)

@@ -8,7 +8,7 @@ use Rattle.rows.specs.Rows.{Kind, Price, closed, open_at, add_rows, all_below, a
 use Rattle.rows.proofs.Sums.{add_rows_length}
 use Rattle.chart.specs.Lawful.{Consistent, EstimateLaw, LinkLaw, Room}
 use Rattle.chart.specs.Meaning.{Link, Meaning, estimate_at, link_at, places, priced, with_price}
-use Rattle.chart.specs.Questions.{Next, leads_at, leads_into, leads_out, opposite}
+use Rattle.chart.specs.Questions.{Next, leads_at, leads_into, leads_out, numbers_at, opposite}
 use Rattle.chart.specs.declared.end.End.{End}
 use Rattle.chart.specs.declared.end.End.TheVariants.{From, To}
 use Rattle.chart.specs.Refusals.{refusal, refusal_at, unless}
@@ -44,6 +44,10 @@ pub out_returned : ReturnOut
 out_returned m p = numbers_mapped reversed refl (leads_out p) (leads_into p) (out_reversed p) 0 m.links
 
 -- the links with an end at a place are those with the other end there, below
+pub numbers_returned : (m : Meaning) (e : End) (p : ℕ) → numbers_at e (returned m) p ≡ numbers_at (opposite e) m p
+numbers_returned m From p = out_returned m p
+numbers_returned m To p = into_returned m p
+
 pub next_returned : (e : End) (p : ℕ) (ls : List (Option Link)) (k : ℕ) (r : Option ℕ) → Next (leads_at (opposite e) p) ls k r → Next (leads_at e p) (map reversed ls) k r
 next_returned To p = next_mapped reversed refl (leads_into p) (leads_out p) (into_reversed p)
 next_returned From p = next_mapped reversed refl (leads_out p) (leads_into p) (out_reversed p)

@@ -76,6 +76,10 @@ impl<C: Chart> Chart for Return<C> {
         self.chart.estimate(place).map(|_| C::Price::zero())
     }
 
+    fn nth_link(&self, end: End, place: u16, n: u16) -> Option<u16> {
+        self.chart.nth_link(end.opposite(), place, n)
+    }
+
     fn next_link(&self, end: End, place: u16, from: u16) -> Option<u16> {
         self.chart.next_link(end.opposite(), place, from)
     }

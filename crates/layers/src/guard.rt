@@ -147,6 +147,11 @@ impl<C: Chart> Chart for Guard<C> {
         self.chart.estimate(place)
     }
 
+    // Handed on whole, like every question: one by one, each number would go through all layers of a pile.
+    fn nth_link(&self, end: End, place: u16, n: u16) -> Option<u16> {
+        self.chart.nth_link(end, place, n)
+    }
+
     fn next_link(&self, end: End, place: u16, from: u16) -> Option<u16> {
         self.chart.next_link(end, place, from)
     }

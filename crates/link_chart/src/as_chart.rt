@@ -49,13 +49,12 @@ impl<'a> Chart for LinkChart<'a> {
         self.place_record(place).map(Lift::from)
     }
 
+    fn nth_link(&self, end: End, place: u16, n: u16) -> Option<u16> {
+        self.nth_at(end, place, n)
+    }
+
     fn next_link(&self, end: End, place: u16, from: u16) -> Option<u16> {
-        for n in from..self.link_count {
-            if self.leads_at(n, end, place) {
-                return Some(n);
-            }
-        }
-        None
+        self.next_at(end, place, from)
     }
 
     fn set_price(&mut self, link: u16, price: Lift) -> Result<(), ChartFault> {

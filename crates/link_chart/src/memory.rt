@@ -1,7 +1,7 @@
 // What a link chart's memory holds, and how it changes. The chart's own calls rest on these.
 ghost use Rattle.std.specs.Prelude.{◌≡◌, length, None};
 ghost use Rattle.chart.specs.Meaning.{link_at, priced};
-ghost use Rattle.chart.specs.Questions.{leads_at};
+ghost use Rattle.chart.specs.Questions.{Next, leads_at, numbers_at};
 ghost use Rattle.chart.specs.Refusals.{refusal};
 ghost use Rattle.chart_file.specs.Checks.{Passed};
 ghost use Rattle.chart_file.specs.File.{drawn};
@@ -42,6 +42,29 @@ impl LinkChart<'_> {
     {
         self.link_record(number)
             .is_some_and(|link| link.end(end) == place)
+    }
+
+    // The lowest number, from a number on, of the links with this end at a place.
+    pub(crate) fn next_at(&self, end: End, place: u16, from: u16) -> Option<u16>
+        ensures { Next (leads_at end place) (chart_of self.now).links from result }
+    {
+        for n in from..self.link_count {
+            if self.leads_at(n, end, place) {
+                return Some(n);
+            }
+        }
+        None
+    }
+
+    // The n-th of them, from 0, by one walk over the table.
+    pub(crate) fn nth_at(&self, end: End, place: u16, n: u16) -> Option<u16>
+        ensures { result ≡ slice_get (numbers_at end (chart_of self.now) place) n }
+    {
+        let mut number = self.next_at(end, place, 0)?;
+        for _ in 0..n {
+            number = self.next_at(end, place, number + 1)?;
+        }
+        Some(number)
     }
 
     // Sets the price of a link, which is not refused.

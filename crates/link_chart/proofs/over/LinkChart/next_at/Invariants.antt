@@ -2,7 +2,7 @@ use Rattle.std.proofs.Common.{◌≡◌, ℕ, ◌<◌, ◌≤◌, false}
 use Rattle.chart.specs.Meaning.{link_at}
 use Rattle.chart.specs.Questions.{leads_at}
 use Rattle.link_chart.specs.Drawn.{chart_of}
-use Rattle.link_chart.proofs.as_chart.LinkChartChart.next_link.Given as goal
+use Rattle.link_chart.proofs.over.LinkChart.next_at.Given as goal
 
 -- none so far has its end there
 abbrev pub invariant-loop-n : goal.invariant-loop-n
