@@ -4,4 +4,3 @@ pub mod Past
 pub mod UpToDate
 pub mod Closing
 pub mod Outcomes
-pub mod Plans

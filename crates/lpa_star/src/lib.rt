@@ -4,12 +4,11 @@
 
 mod beginning;
 mod look;
-mod plan;
 mod repairing;
 mod repricing;
 mod step;
 
+pub use beginning::begin;
 pub use look::standing_of;
-pub use plan::Plan;
-pub use repairing::Unsettled;
+pub use repairing::{Unsettled, repair};
 pub use repricing::reprice;

@@ -9,15 +9,15 @@ ghost use Rattle.lpa_star.specs.Past.{KeepsPast};
 ghost use Rattle.lpa_star.specs.UpToDate.{SameAt, UpToDate, WhereCurrent};
 
 use crate::look::led_to;
-use crate::plan::Plan;
+use crate::step::update;
 use bench::Bench;
 use chart::{Chart, ChartFault};
 use price::PriceKind;
 
 // Sets the price of a link, and puts right what is kept of the place that it leads to. A refusal changes nothing.
-pub fn reprice<'m, C: Chart>(
+pub fn reprice<C: Chart>(
     chart: &mut C,
-    bench: &mut Bench<'m, C::Price>,
+    bench: &mut Bench<C::Price>,
     link: u16,
     price: C::Price,
 ) -> Result<(), ChartFault>
@@ -33,8 +33,7 @@ pub fn reprice<'m, C: Chart>(
     let to = led_to(chart, link);
     chart.set_price(link, price)?;
     if let Some(to) = to {
-        let mut plan = Plan { chart, bench };
-        plan.update(to);
+        update(chart, bench, to);
     }
     Ok(())
 }

@@ -2,18 +2,52 @@
 ghost use Rattle.std.specs.Prelude.{◌≡◌, ℕ, ◌<◌, ◌≤◌, ◌≢◌, slice_index_or, slice_set};
 ghost use Rattle.rows.specs.Rows.{closed};
 ghost use Rattle.chart.specs.Meaning.{places};
-ghost use Rattle.bench.specs.Contents.{Sorted, lookaheads, room, standings};
+ghost use Rattle.bench.specs.Contents.{SameLender, Sorted, lookaheads, room, standings};
 ghost use Rattle.lifelong.specs.Standings.{standing_at};
 ghost use Rattle.lifelong.specs.Step.{changed};
 ghost use Rattle.lpa_star.specs.Memory.{memory};
-ghost use Rattle.lpa_star.specs.Plans.{SameSources};
 ghost use Rattle.lpa_star.specs.Past.{KeepsPast};
 ghost use Rattle.lpa_star.specs.UpToDate.{RightAt, SameAt, UpToDate, UpToDateBut, WhereCurrent};
 
-use crate::look::{led_to, standing_of};
-use crate::plan::Plan;
+use crate::look::{differ, kept_lookahead, key_for, led_to, lookahead_of, standing_of};
+use bench::Bench;
 use chart::{Chart, End, LinksAt};
 use price::PriceKind;
+
+// Puts right what is kept of a place (published: UpdateVertex).
+pub(crate) fn update<C: Chart>(chart: &C, bench: &mut Bench<C::Price>, place: u16)
+    ensures lender { SameLender bench.old bench.new }
+    ensures standings { standings C.Price.PriceKind.value bench.new ≡ standings C.Price.PriceKind.value bench.old }
+    ensures right { place < places (C.Chart.meaning chart.now) → places (C.Chart.meaning chart.now) ≤ room bench.old → RightAt (C.Chart.meaning chart.now) (memory C.Price.PriceKind.value bench.new) place }
+    ensures others { (q : ℕ) → (q ≢ place) → SameAt (memory C.Price.PriceKind.value bench.old) (memory C.Price.PriceKind.value bench.new) q }
+    ensures order { Sorted C.Price.PriceKind.value bench.old → Sorted C.Price.PriceKind.value bench.new }
+    ensures past { (n : ℕ) → place < n → KeepsPast n bench.old bench.new }
+{
+    let lookahead = lookahead_of(chart, bench, place);
+    let standing = standing_of(bench, place);
+    bench.put_lookahead(place, lookahead);
+    if differ(standing, lookahead) {
+        let key = key_for(chart, place, standing.min(lookahead));
+        bench.enqueue(place, key);
+        return;
+    }
+    bench.dequeue(place);
+}
+
+// Puts right all places to which a link leads from a place whose standing has changed, and then that place.
+pub(crate) fn update_from<C: Chart>(chart: &C, bench: &mut Bench<C::Price>, place: u16)
+    ensures lender { SameLender bench.old bench.new }
+    ensures standings { standings C.Price.PriceKind.value bench.new ≡ standings C.Price.PriceKind.value bench.old }
+    ensures current { place < places (C.Chart.meaning chart.now) → places (C.Chart.meaning chart.now) ≤ room bench.old → UpToDateBut (C.Chart.meaning chart.now) place 0 (memory C.Price.PriceKind.value bench.old) → UpToDate (C.Chart.meaning chart.now) (memory C.Price.PriceKind.value bench.new) }
+    ensures past { place < places (C.Chart.meaning chart.now) → KeepsPast (places (C.Chart.meaning chart.now)) bench.old bench.new }
+{
+    for number in LinksAt::new(chart, End::From, place) {
+        if let Some(to) = led_to(chart, number) {
+            update(chart, bench, to);
+        }
+    }
+    update(chart, bench, place);
+}
 
 // Lowered to the lookahead, or raised to closed.
 fn changed<P: PriceKind>(standing: P, lookahead: P) -> P
@@ -26,52 +60,14 @@ fn changed<P: PriceKind>(standing: P, lookahead: P) -> P
     }
 }
 
-impl<C: Chart> Plan<'_, '_, '_, C> {
-    // Puts right what is kept of a place (published: UpdateVertex).
-    pub(crate) fn update(&mut self, place: u16)
-        ensures sources { SameSources self.old self.new }
-        ensures standings { standings C.Price.PriceKind.value self.new.bench.now ≡ standings C.Price.PriceKind.value self.old.bench.now }
-        ensures right { place < places (C.Chart.meaning self.old.chart.now) → places (C.Chart.meaning self.old.chart.now) ≤ room self.old.bench.now → RightAt (C.Chart.meaning self.old.chart.now) (memory C.Price.PriceKind.value self.new.bench.now) place }
-        ensures others { (q : ℕ) → (q ≢ place) → SameAt (memory C.Price.PriceKind.value self.old.bench.now) (memory C.Price.PriceKind.value self.new.bench.now) q }
-        ensures order { Sorted C.Price.PriceKind.value self.old.bench.now → Sorted C.Price.PriceKind.value self.new.bench.now }
-        ensures past { (n : ℕ) → place < n → KeepsPast n self.old.bench.now self.new.bench.now }
-    {
-        let lookahead = self.lookahead(place);
-        let standing = standing_of(self.bench, place);
-        self.bench.put_lookahead(place, lookahead);
-        if standing != lookahead {
-            let key = self.key_for(place, standing.min(lookahead));
-            self.bench.enqueue(place, key);
-            return;
-        }
-        self.bench.dequeue(place);
-    }
-
-    // Puts right all places to which a link leads from a place whose standing has changed, and then that place.
-    pub(crate) fn update_from(&mut self, place: u16)
-        ensures sources { SameSources self.old self.new }
-        ensures standings { standings C.Price.PriceKind.value self.new.bench.now ≡ standings C.Price.PriceKind.value self.old.bench.now }
-        ensures current { place < places (C.Chart.meaning self.old.chart.now) → places (C.Chart.meaning self.old.chart.now) ≤ room self.old.bench.now → UpToDateBut (C.Chart.meaning self.old.chart.now) place 0 (memory C.Price.PriceKind.value self.old.bench.now) → UpToDate (C.Chart.meaning self.old.chart.now) (memory C.Price.PriceKind.value self.new.bench.now) }
-        ensures past { place < places (C.Chart.meaning self.old.chart.now) → KeepsPast (places (C.Chart.meaning self.old.chart.now)) self.old.bench.now self.new.bench.now }
-    {
-        let chart = self.chart;
-        for number in LinksAt::new(chart, End::From, place) {
-            if let Some(to) = led_to(chart, number) {
-                self.update(to);
-            }
-        }
-        self.update(place);
-    }
-
-    // Expands a place: its standing is lowered or raised, and what hangs on it is put right.
-    pub(crate) fn expand(&mut self, place: u16)
-        ensures sources { SameSources self.old self.new }
-        ensures standings { place < room self.old.bench.now → standings C.Price.PriceKind.value self.new.bench.now ≡ slice_set (standings C.Price.PriceKind.value self.old.bench.now) place (changed (standing_at (standings C.Price.PriceKind.value self.old.bench.now) place) (slice_index_or (lookaheads C.Price.PriceKind.value self.old.bench.now) place closed)) }
-        ensures current { place < places (C.Chart.meaning self.old.chart.now) → WhereCurrent C.Price.PriceKind.value (C.Chart.meaning self.old.chart.now) self.old.bench.now (UpToDate (C.Chart.meaning self.old.chart.now) (memory C.Price.PriceKind.value self.new.bench.now)) }
-        ensures past { place < places (C.Chart.meaning self.old.chart.now) → KeepsPast (places (C.Chart.meaning self.old.chart.now)) self.old.bench.now self.new.bench.now }
-    {
-        let standing = changed(standing_of(self.bench, place), self.kept_lookahead(place));
-        self.bench.put_standing(place, standing);
-        self.update_from(place);
-    }
+// Expands a place: its standing is lowered or raised, and what hangs on it is put right.
+pub(crate) fn expand<C: Chart>(chart: &C, bench: &mut Bench<C::Price>, place: u16)
+    ensures lender { SameLender bench.old bench.new }
+    ensures standings { place < room bench.old → standings C.Price.PriceKind.value bench.new ≡ slice_set (standings C.Price.PriceKind.value bench.old) place (changed (standing_at (standings C.Price.PriceKind.value bench.old) place) (slice_index_or (lookaheads C.Price.PriceKind.value bench.old) place closed)) }
+    ensures current { place < places (C.Chart.meaning chart.now) → WhereCurrent C.Price.PriceKind.value (C.Chart.meaning chart.now) bench.old (UpToDate (C.Chart.meaning chart.now) (memory C.Price.PriceKind.value bench.new)) }
+    ensures past { place < places (C.Chart.meaning chart.now) → KeepsPast (places (C.Chart.meaning chart.now)) bench.old bench.new }
+{
+    let standing = changed(standing_of(bench, place), kept_lookahead(bench, place));
+    bench.put_standing(place, standing);
+    update_from(chart, bench, place);
 }

@@ -1,15 +1,8 @@
 // What the turns do once it is known whether it is their turn.
-ghost use Rattle.std.specs.Prelude.{◌≡◌, ℕ, ◌*◌, ◌≤◌, true, false, length, is_err, is_ok, None};
-ghost use Rattle.bench.specs.Contents.{SameLender, past, room, standings};
-ghost use Rattle.chart.specs.Meaning.{places};
-ghost use Rattle.lifelong.specs.Run.{repair as defined_repair};
-ghost use Rattle.lifelong.specs.Step.{settled};
-ghost use Rattle.lpa_star.specs.Closing.{closed_first};
-ghost use Rattle.lpa_star.specs.Outcomes.{steps_of};
-ghost use Rattle.lpa_star.specs.Past.{KeepsPast};
-ghost use Rattle.lpa_star.specs.UpToDate.{UpToDate, WhereCurrent};
+ghost use Rattle.std.specs.Prelude.{◌≡◌, ℕ, true, false, length, is_err, None};
+ghost use Rattle.bench.specs.Contents.{standings};
 ghost use Rattle.lifelong.specs.Standings.{standing_at};
-ghost use Rattle.lpa_star.specs.Memory.{Memory, memory};
+ghost use Rattle.lpa_star.specs.Memory.{Memory};
 ghost use Rattle.turns.specs.History.{Reachable, passes};
 ghost use Rattle.turns.specs.Promises.{RepairPromises, TracePromises};
 ghost use Rattle.turns.specs.Turned.{Turned};
@@ -23,7 +16,6 @@ use crate::parts::{Firm, Loose, Refused, Repaired, Stage, Ticket};
 use crate::planner::Planner;
 use bench::Bench;
 use chart::Chart;
-use lpa_star::{Plan, Unsettled};
 use price::PriceKind;
 
 impl<C: Chart> Planner<C> {
@@ -60,39 +52,6 @@ impl<C: Chart> Planner<C> {
         self.stage = Stage::Idle;
     }
 
-    // A plan from the beginning.
-    fn set_out(&mut self, bench: &mut Bench<C::Price>)
-        ensures planner { self.new ≡ self.old }
-        ensures lender { SameLender bench.old bench.new }
-        ensures standings { standings C.Price.PriceKind.value bench.new ≡ closed_first (places (C.Chart.meaning self.old.chart)) (standings C.Price.PriceKind.value bench.old) }
-        ensures current { places (C.Chart.meaning self.old.chart) ≤ room bench.old → UpToDate (C.Chart.meaning self.old.chart) (memory C.Price.PriceKind.value bench.new) }
-        ensures past { past (places (C.Chart.meaning self.old.chart)) bench.new ≡ past (places (C.Chart.meaning self.old.chart)) bench.old }
-    {
-        let mut plan = Plan {
-            chart: &self.chart,
-            bench,
-        };
-        plan.begin();
-    }
-
-    // Steps until settled, for two steps for each place at most.
-    fn settle(&mut self, bench: &mut Bench<C::Price>) -> Result<u16, Unsettled>
-        ensures planner { self.new ≡ self.old }
-        ensures lender { SameLender bench.old bench.new }
-        ensures few { steps_of result ≤ 2 * places (C.Chart.meaning self.old.chart) }
-        ensures steps { WhereCurrent C.Price.PriceKind.value (C.Chart.meaning self.old.chart) bench.old (steps_of result ≡ length (defined_repair (C.Chart.meaning self.old.chart) (standings C.Price.PriceKind.value bench.old)).steps) }
-        ensures standings { WhereCurrent C.Price.PriceKind.value (C.Chart.meaning self.old.chart) bench.old (standings C.Price.PriceKind.value bench.new ≡ (defined_repair (C.Chart.meaning self.old.chart) (standings C.Price.PriceKind.value bench.old)).left) }
-        ensures settled { WhereCurrent C.Price.PriceKind.value (C.Chart.meaning self.old.chart) bench.old (is_ok result ≡ settled (C.Chart.meaning self.old.chart) (standings C.Price.PriceKind.value bench.new)) }
-        ensures current { WhereCurrent C.Price.PriceKind.value (C.Chart.meaning self.old.chart) bench.old (UpToDate (C.Chart.meaning self.old.chart) (memory C.Price.PriceKind.value bench.new)) }
-        ensures past { KeepsPast (places (C.Chart.meaning self.old.chart)) bench.old bench.new }
-    {
-        let mut plan = Plan {
-            chart: &self.chart,
-            bench,
-        };
-        plan.repair()
-    }
-
     // The goal's standing.
     fn goal_standing(&self, bench: &Bench<C::Price>) -> C::Price
         ensures { C.Price.PriceKind.value result ≡ standing_at (standings C.Price.PriceKind.value bench.now) (C.Chart.meaning self.now.chart).goal }
@@ -114,7 +73,7 @@ impl<C: Chart> Planner<C> {
         ensures lender { bench.new.records.ghost_name ≡ bench.old.records.ghost_name }
     {
         self.check(in_turn, bench)?;
-        self.set_out(bench);
+        lpa_star::begin(&self.chart, bench);
         Ok(self.loosen())
     }
 
@@ -150,7 +109,7 @@ impl<C: Chart> Planner<C> {
         if let Err(fault) = self.check(in_turn, bench) {
             return Err(Refused { ticket, fault });
         }
-        let Ok(steps) = self.settle(bench) else {
+        let Ok(steps) = lpa_star::repair(&self.chart, bench) else {
             return Err(Refused {
                 ticket,
                 fault: Fault::NotSettled,

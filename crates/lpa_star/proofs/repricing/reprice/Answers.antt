@@ -3,7 +3,7 @@ use Rattle.chart.specs.Meaning.{link_at, places, priced}
 use Rattle.chart.specs.Refusals.{refusal}
 use Rattle.bench.specs.Contents.{room}
 use Rattle.lpa_star.specs.Memory.{memory}
-use Rattle.lpa_star.specs.UpToDate.{UpToDate, to_of}
+use Rattle.lpa_star.specs.UpToDate.{to_of}
 use Rattle.lpa_star.proofs.Repricings.{not_refused, repriced}
 use Rattle.lpa_star.proofs.Successors.{led, to_inside}
 use Rattle.lpa_star.proofs.repricing.reprice.Goals as goal
@@ -23,12 +23,10 @@ returns-in-Some-clause-current g c = λ lr z.
     let ep : p ≡ to_of (link_at m n) m.start = led (link_at m n) m.start p c.in-Some.ensures in
     let lp : p < places m = subst (λ q. q < places m) (sym ep) (to_inside m.kind (places m) m.height m.start (link_at m n) law.start_in (law.links_law n)) in
     let ek : k ≡ priced m n x = t.after ∙ not_refused (refusal m n x) m (priced m n x) t.answer in
-    let left = c.bench-1.given.1 (sym h.sources.1) in
-    subst (λ d. UpToDate k (memory v d)) (sym left)
-    (repriced m k (memory v b) (memory v c.update.new.self.bench.now) n x m.start p ek ep lp
+    repriced m k (memory v b) (memory v c.update.new.bench) n x m.start p ek ep lp
     (record {
       standings = h.standings;
       right = h.right (subst (λ y. p < places y) (sym ek) lp) (subst (λ y. places y ≤ room b) (sym ek) lr);
       others = h.others;
       order = h.order;
-    }) z)
+    }) z

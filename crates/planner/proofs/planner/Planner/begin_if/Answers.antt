@@ -12,9 +12,9 @@ returns-clause-turned g c = λ t.
     let v = g.C.Price.PriceKind.value in
     let p = c.args.self.now in
     let b = c.args.bench.now in
-    let d = c.set_out.new.bench in
+    let d = c.begin.new.bench in
     let s = state g.C.Chart.meaning v p b in
-    let h = c.set_out.ensures in
+    let h = c.begin.ensures in
     let k = c.loosen.ensures in
     let e : None ≡ precheck s begin_turn = c.in_ok-check.ensures ∙ ap (λ (ok : Bool). with_bench ok s) t in
     let z : Turned s begin_turn (gives_loose p.number) (state g.C.Chart.meaning v (at_stage_of Loose p) d) = accept (precheck s begin_turn) s _ _ _ e (record {
@@ -28,5 +28,5 @@ returns-clause-turned g c = λ t.
       once = d.back;
       past = same_past v (places s.chart) b d h.past;
     }) in
-    subst (λ q. Turned s begin_turn (gives_loose c.loosen.result.number) (state g.C.Chart.meaning v q d)) (sym (k.after ∙ ap (at_stage_of Loose) h.planner))
-    (subst (λ n. Turned s begin_turn (gives_loose n) (state g.C.Chart.meaning v (at_stage_of Loose p) d)) (sym (k.ticket ∙ ap (λ q. q.number) h.planner)) z)
+    subst (λ q. Turned s begin_turn (gives_loose c.loosen.result.number) (state g.C.Chart.meaning v q d)) (sym k.after)
+    (subst (λ n. Turned s begin_turn (gives_loose n) (state g.C.Chart.meaning v (at_stage_of Loose p) d)) (sym k.ticket) z)

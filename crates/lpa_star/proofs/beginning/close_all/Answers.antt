@@ -2,13 +2,13 @@ use Rattle.std.proofs.Common.{◌≡◌, ◌<◌, ◌≤◌, set, refl, ap, ◌�
 use Rattle.bench.specs.Contents.{lookaheads, room, standings}
 use Rattle.lpa_star.proofs.Beginnings.{closed_more, closed_none}
 use Rattle.lpa_star.proofs.Columns.{lookaheads_long, standings_long, written}
-use Rattle.lpa_star.proofs.plan.Plan.close_all.Goals as goal
+use Rattle.lpa_star.proofs.beginning.close_all.Goals as goal
 
 pub loop-place-init : goal.loop-place-init
 loop-place-init g c =
     let v = g.C.Price.PriceKind.value in
     let b = c.clear.new.self in
-    ((refl, refl, (refl, (refl, refl))), closed_none (standings v b), closed_none (lookaheads v b), c.clear.ensures.queue, c.clear.ensures.order, λ n h. refl)
+    ((refl, (refl, refl)), closed_none (standings v b), closed_none (lookaheads v b), c.clear.ensures.queue, c.clear.ensures.order, λ n h. refl)
 
 pub loop-place-preserved : goal.loop-place-preserved
 loop-place-preserved g c =
@@ -16,7 +16,7 @@ loop-place-preserved g c =
     let a = c.clear.new.self in
     let l = c.loop-place in
     let inv = l.invariant in
-    let b = l.self.bench.now in
+    let b = l.bench in
     let p = l.place in
     let d = c.put_standing.new.self in
     let f = c.put_lookahead.new.self in
@@ -27,7 +27,7 @@ loop-place-preserved g c =
     let el : lookaheads v f ≡ set (lookaheads v d) p (v c.closed-in-loop-place.result) =
     written c.put_lookahead.result p (room d) (lookaheads v d) (lookaheads v f) (v c.closed-in-loop-place.result) h.answer (lookaheads_long v d) h.written
     (λ z. ap (lookaheads v) (h.refused z)) in (
-      (inv.0.0, inv.0.1, (h.lender.0 ∙ e.lender.0 ∙ inv.0.2.0, (h.lender.1.0 ∙ e.lender.1.0 ∙ inv.0.2.1.0, h.lender.1.1 ∙ e.lender.1.1 ∙ inv.0.2.1.1))),
+      (h.lender.0 ∙ e.lender.0 ∙ inv.0.0, (h.lender.1.0 ∙ e.lender.1.0 ∙ inv.0.1.0, h.lender.1.1 ∙ e.lender.1.1 ∙ inv.0.1.1)),
       h.rest.0 ∙ eg ∙ (λ i. set (inv.1 i) p (c.closed.ensures i)) ∙ closed_more p (standings v a),
       el ∙ (λ i. set ((e.rest.0 ∙ inv.2) i) p (c.closed-in-loop-place.ensures i)) ∙ closed_more p (lookaheads v a),
       λ q w. inv.3 q ((e.queue q).1 ((h.queue q).1 w)),

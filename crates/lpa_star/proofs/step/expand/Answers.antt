@@ -4,14 +4,14 @@ use Rattle.bench.specs.Contents.{room, standings}
 use Rattle.lpa_star.specs.Memory.{memory}
 use Rattle.lpa_star.proofs.Columns.{standings_long, written}
 use Rattle.lpa_star.proofs.Successors.{restood}
-use Rattle.lpa_star.proofs.plan.Plan.expand.Goals as goal
+use Rattle.lpa_star.proofs.step.expand.Goals as goal
 
 pub returns-clause-current : goal.returns-clause-current
 returns-clause-current g c = λ lp lr z.
-    let m = g.C.Chart.meaning c.args.self.now.chart.now in
+    let m = g.C.Chart.meaning c.args.chart.now in
     let v = g.C.Price.PriceKind.value in
     let p = c.args.place in
-    let b = c.args.self.now.bench.now in
+    let b = c.args.bench.now in
     let d = c.put_standing.new.self in
     let e = c.put_standing.ensures in
     let x = v c.changed-standing.result in

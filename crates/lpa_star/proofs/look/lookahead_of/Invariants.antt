@@ -6,11 +6,11 @@ use Rattle.chart.specs.Routes.{least_over}
 use Rattle.chart.specs.declared.end.End.TheVariants.{To}
 use Rattle.bench.specs.Contents.{standings}
 use Rattle.lifelong.specs.Standings.{through}
-use Rattle.lpa_star.proofs.plan.Plan.lookahead.Given as goal
+use Rattle.lpa_star.proofs.look.lookahead_of.Given as goal
 
 -- the links from number k on are left
 abbrev pub invariant-loop-number : goal.invariant-loop-number
 invariant-loop-number g l =
-    let m = g.C.Chart.meaning l.self.chart.now in
-    let all = least_over (leads_into l.place) (through m.kind (standings g.C.Price.PriceKind.value l.self.bench.now)) in
+    let m = g.C.Chart.meaning l.chart in
+    let all = least_over (leads_into l.place) (through m.kind (standings g.C.Price.PriceKind.value l.bench)) in
     (k : ℕ) × (left g.C.Chart.meaning l.number-iterator ≡ numbers_left To m l.place k) × (smaller (g.C.Price.PriceKind.value l.best) (all (drop k m.links)) ≡ all m.links)

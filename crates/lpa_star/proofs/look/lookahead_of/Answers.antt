@@ -9,19 +9,19 @@ use Rattle.bench.specs.Contents.{standings}
 use Rattle.lifelong.specs.Standings.{lookahead, through}
 use Rattle.lifelong.proofs.Lookaheads.{look_other, look_start}
 use Rattle.lpa_star.proofs.Lookaheads.{look_end, look_more}
-use Rattle.lpa_star.proofs.plan.Plan.lookahead.Goals as goal
+use Rattle.lpa_star.proofs.look.lookahead_of.Goals as goal
 
 pub returns-then-place-start : goal.returns-then-place-start
 returns-then-place-start g c =
-    let m = g.C.Chart.meaning c.args.self.now.chart.now in
-    let gs = standings g.C.Price.PriceKind.value c.args.self.now.bench.now in
-    c.zero.ensures ∙ ap zero_of (sym (g.met.C.Chart.priced_in c.args.self.now.chart.now))
+    let m = g.C.Chart.meaning c.args.chart.now in
+    let gs = standings g.C.Price.PriceKind.value c.args.bench.now in
+    c.zero.ensures ∙ ap zero_of (sym (g.met.C.Chart.priced_in c.args.chart.now))
     ∙ sym (ap (lookahead m gs) (c.if-place-start.true ∙ c.start.ensures) ∙ look_start m gs)
 
 pub loop-number-init : goal.loop-number-init
 loop-number-init g c =
-    let m = g.C.Chart.meaning c.args.self.now.chart.now in
-    let cost = through m.kind (standings g.C.Price.PriceKind.value c.args.self.now.bench.now) in (
+    let m = g.C.Chart.meaning c.args.chart.now in
+    let cost = through m.kind (standings g.C.Price.PriceKind.value c.args.bench.now) in (
       0,
       ap (left g.C.Chart.meaning) c.into_iter-number-iterator.ensures.into_iter_gives ∙ c.new-number-items.ensures,
       ap (λ b. smaller b (least_over (leads_into c.args.place) cost m.links)) c.closed-best.ensures,
@@ -29,9 +29,9 @@ loop-number-init g c =
 
 pub loop-number-preserved : goal.loop-number-preserved
 loop-number-preserved g c =
-    let m = g.C.Chart.meaning c.args.self.now.chart.now in
+    let m = g.C.Chart.meaning c.args.chart.now in
     let v = g.C.Price.PriceKind.value in
-    let gs = standings v c.args.self.now.bench.now in
+    let gs = standings v c.args.bench.now in
     let l = c.loop-number in
     let next = next_of (leads_into c.args.place) m.links l.invariant.0 c.in-Some.number (left g.C.Chart.meaning c.next.new.self) (sym l.invariant.1 ∙ c.in-Some.ensures.steps) in
     let less = ap v c.min-best.ensures ∙ min_value v g.C.Price.Ord.cmp g.met.C.Price.PriceKind.ordered l.best c.cost_through.result ∙ ap (smaller (v l.best)) c.cost_through.ensures in (
@@ -42,9 +42,9 @@ loop-number-preserved g c =
 
 pub returns : goal.returns
 returns g c =
-    let m = g.C.Chart.meaning c.args.self.now.chart.now in
+    let m = g.C.Chart.meaning c.args.chart.now in
     let v = g.C.Price.PriceKind.value in
-    let gs = standings v c.args.self.now.bench.now in
+    let gs = standings v c.args.bench.now in
     let l = c.loop-number in
     look_end (leads_into c.args.place) (through m.kind gs) m.links l.invariant.0 (v l.best) _
     (none_of (leads_into c.args.place) m.links refl l.invariant.0 (sym l.invariant.1 ∙ c.in-None.ensures.steps.0)) l.invariant.2
