@@ -29,14 +29,15 @@ impl<C: Chart> Trail<'_, '_, '_, C> {
         ensures { result ≡ route_length (way_back (C.Chart.meaning self.now.chart.now) (standings C.Price.PriceKind.value self.now.bench.now)) }
     {
         let start = self.chart.start();
+        let places = usize::from(self.chart.places());
         let mut place = self.chart.goal();
-        for moves in 0..=usize::from(self.chart.places()) {
+        for moves in 0..places {
             if place == start {
                 return Some(moves + 1);
             }
             place = self.place_before(place)?;
         }
-        None
+        (place == start).then_some(places + 1)
     }
 
     // Writes the way back from the goal, the start first, over the first `count` numbers.
